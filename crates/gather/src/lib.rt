@@ -1,0 +1,116 @@
+// A layer over any sink that gathers short parts into longer ones.
+ghost use mathlib.Core.Path.{_≡_};
+ghost use Prim.Native.Nat.{_+_, _-_, _≤_, min};
+ghost use denote.Ref.{now};
+ghost use lib.ListN.{length};
+ghost use Rattle.sink.specs.Meaning.{grown, Puts, StaysIfRefused};
+ghost use Rattle.gather.specs.Gathers.{mostWaiting, waiting, gathered, gathered-lawful, WaitsIfShort};
+use sink::Sink;
+use sink::refusal::Refusal;
+
+// The most bytes that a layer holds back.
+const MOST: usize = 64;
+
+// A sink, and its last `count` bytes that wait in a buffer.
+#[derive(Drop)]
+pub struct Gather<S> {
+    below: S,
+    buffer: [u8; 64],
+    count: usize,
+}
+
+impl<S: Sink> Gather<S> {
+    // A layer over a sink, with nothing waiting.
+    pub fn new(below: S) -> Gather<S>
+        ensures same { λ r. ⌜ gathered (S·Sink .view (r .below)) (r .buffer) (r .count) ≡ S·Sink .view below ⌝ }
+        ensures none { λ r. ⌜ waiting (S·Sink .view (r .below)) (r .buffer) (r .count) ≡ 0 ⌝ }
+        ensures sink { λ r. ⌜ r .below ≡ below ⌝ }
+    {
+        Gather {
+            below,
+            buffer: [0; 64],
+            count: 0,
+        }
+    }
+
+    // How many bytes wait in this layer.
+    pub fn waiting(&self) -> usize
+        ensures value { λ r. ⌜ r ≡ waiting (S·Sink .view (now (self .entry) .below)) (now (self .entry) .buffer) (now (self .entry) .count) ⌝ }
+        ensures bound { λ r. ⌜ r ≤ mostWaiting ⌝ }
+    {
+        let buffer: &[u8] = &self.buffer;
+        self.count.min(buffer.len().min(MOST)).min(self.below.room())
+    }
+
+    // How many more may wait.
+    fn spare(&self) -> usize
+        ensures { λ r. ⌜ r ≡ min mostWaiting (length (now (self .entry) .buffer)) - waiting (S·Sink .view (now (self .entry) .below)) (now (self .entry) .buffer) (now (self .entry) .count) ⌝ }
+    {
+        let buffer: &[u8] = &self.buffer;
+        buffer.len().min(MOST) - self.waiting()
+    }
+
+    // Lets part wait too.
+    fn hold(&mut self, part: &[u8])
+        requires fits { ⌜ waiting (S·Sink .view (now self .below)) (now self .buffer) (now self .count) + length (now part) ≤ min mostWaiting (length (now self .buffer)) ⌝ }
+        requires room { ⌜ waiting (S·Sink .view (now self .below)) (now self .buffer) (now self .count) + length (now part) ≤ S·Sink .view (now self .below) .room ⌝ }
+        ensures after { λ _. ⌜ gathered (S·Sink .view (now (self .exit) .below)) (now (self .exit) .buffer) (now (self .exit) .count) ≡ grown (gathered (S·Sink .view (now (self .entry) .below)) (now (self .entry) .buffer) (now (self .entry) .count)) (now (part .entry)) ⌝ }
+        ensures below { λ _. ⌜ now (self .exit) .below ≡ now (self .entry) .below ⌝ }
+        ensures more { λ _. ⌜ waiting (S·Sink .view (now (self .exit) .below)) (now (self .exit) .buffer) (now (self .exit) .count) ≡ waiting (S·Sink .view (now (self .entry) .below)) (now (self .entry) .buffer) (now (self .entry) .count) + length (now (part .entry)) ⌝ }
+    {
+        let at = self.waiting();
+        let end = at + part.len();
+        self.buffer[at..end].copy_from_slice(part);
+        self.count = end;
+    }
+}
+
+pub impl<S: Sink> Sink for Gather<S> as GatherSink {
+    ghost view = { λ s. gathered (S·Sink .view (s .below)) (s .buffer) (s .count) };
+
+    ghost held = { λ s. S·Sink .held (s .below) + waiting (S·Sink .view (s .below)) (s .buffer) (s .count) };
+
+    ghost memory = { λ s. S·Sink .memory (s .below) };
+
+    ghost lawful = { λ s. gathered-lawful (S·Sink .view (s .below)) (s .buffer) (s .count) (S·Sink .lawful (s .below)) };
+
+    fn put(&mut self, part: &[u8]) -> Result<(), Refusal>
+        ensures puts { λ r. ⌜ Puts r (now (part .entry)) (gathered (S·Sink .view (now (self .entry) .below)) (now (self .entry) .buffer) (now (self .entry) .count)) (gathered (S·Sink .view (now (self .exit) .below)) (now (self .exit) .buffer) (now (self .exit) .count)) ⌝ }
+        ensures stays { λ r. ⌜ StaysIfRefused r (S·Sink .held (now (self .entry) .below) + waiting (S·Sink .view (now (self .entry) .below)) (now (self .entry) .buffer) (now (self .entry) .count)) (S·Sink .held (now (self .exit) .below) + waiting (S·Sink .view (now (self .exit) .below)) (now (self .exit) .buffer) (now (self .exit) .count)) (S·Sink .memory (now (self .entry) .below)) (S·Sink .memory (now (self .exit) .below)) ⌝ }
+        ensures gathers { λ r. ⌜ WaitsIfShort r (length (now (part .entry))) (waiting (S·Sink .view (now (self .entry) .below)) (now (self .entry) .buffer) (now (self .entry) .count)) (waiting (S·Sink .view (now (self .exit) .below)) (now (self .exit) .buffer) (now (self .exit) .count)) (S·Sink .view (now (self .entry) .below)) (S·Sink .view (now (self .exit) .below)) ⌝ }
+    {
+        let n = part.len();
+        if n > (*self).room() {
+            return Err(Refusal::Full);
+        }
+        if n <= self.spare() {
+            self.hold(part);
+            return Ok(());
+        }
+        self.settle();
+        if n <= self.spare() {
+            self.hold(part);
+            return Ok(());
+        }
+        self.below.put(part)
+    }
+
+    fn len(&self) -> usize {
+        self.below.len() + self.waiting()
+    }
+
+    fn room(&self) -> usize {
+        self.below.room() - self.waiting()
+    }
+
+    fn held(&self) -> usize {
+        self.below.held() + self.waiting()
+    }
+
+    fn settle(&mut self) {
+        let at = self.waiting();
+        let _ = self.below.put(&self.buffer[..at]);
+        self.count = 0;
+        self.below.settle();
+    }
+}
