@@ -39,7 +39,9 @@ impl<S: Sink> Gather<S> {
         ensures bound { λ r. ⌜ r ≤ mostWaiting ⌝ }
     {
         let buffer: &[u8] = &self.buffer;
-        self.count.min(buffer.len().min(MOST)).min(self.below.room())
+        self.count
+            .min(buffer.len().min(MOST))
+            .min(self.below.room())
     }
 
     // How many more may wait.

@@ -74,6 +74,19 @@ pub room-after : {a : List ℕ} {v w : View} → Took a v w → w .room ≡ v .r
 unfolding grown
 room-after {a} {v} {w} t = ap (λ (x : View). x .room) (t .is)
 
+-- the last text of several that have room together
+pub puts-then : {r : Result Unit Refusal} {a b : List ℕ} {v w u : View} → length (a ++ b) ≤ v .room → Took a v w → Puts r b w u → Puts r (a ++ b) v u
+puts-then {r} {a} {b} {v} {w} {u} h t p =
+    let l = length-append a b in
+    let left = room-after t in
+    let short : length b ≤ w .room = omega arith in
+    let ok : r ≡ Ok tt = fits-ok short p in
+    rw ok (puts-taken h (took-more t (took p short) .is))
+
+-- a text that has room is not refused
+pub fits-not-refused : {r : Result Unit Refusal} {e : Refusal} {text : List ℕ} {v w : View} → length text ≤ v .room → Puts r text v w → r ≡ Err e → ⊥
+fits-not-refused h p err = let ok = fits-ok h p in let z : _≡_ {A = ℕ} 0 1 = cc in omega arith
+
 -- it stands over the same memory
 pub puts-loans : (r : Result Unit Refusal) {text : List ℕ} {v w : View} → Puts r text v w → w .loans ≡ v .loans
 unfolding grown
