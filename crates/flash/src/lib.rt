@@ -54,9 +54,9 @@ impl<'a> Flash<'a> {
         ensures count { λ r. ⌜ r ≡ length (memoryView (flat (now (self .entry .words))) (self .entry .len) (ghostName (self .entry .words)) .bytes) ⌝ }
         ensures lands { λ _. ⌜ flat (now (self .exit .0)) ≡ memoryView (flat (now (self .entry .words))) (self .entry .len) (ghostName (self .entry .words)) .bytes ++ memoryView (flat (now (self .entry .words))) (self .entry .len) (ghostName (self .entry .words)) .beyond ⌝ }
     {
-        let n = self.len();
+        let count = self.len();
         let Flash { words: _, len: _ } = self;
-        n
+        count
     }
 }
 

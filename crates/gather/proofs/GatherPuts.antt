@@ -18,6 +18,9 @@ use Rattle.gather.specs.Gathers.{mostWaiting, waiting, gathered, WaitsIfShort}
 pub gathered-none : (v : View) (buffer : List ℕ) → gathered v buffer 0 ≡ v
 gathered-none v buffer = let z : waiting v buffer 0 ≡ 0 = omega arith in rw z (grown-none v)
 
+pub gathered-empty : (v : View) (buffer : List ℕ) (count : ℕ) → count ≡ 0 → gathered v buffer count ≡ v
+gathered-empty v buffer count none = rw none (gathered-none v buffer)
+
 pub gathered-room : (v : View) (buffer : List ℕ) (count : ℕ) → gathered v buffer count .room ≡ v .room - waiting v buffer count
 unfolding grown
 gathered-room v buffer count = omega (arith, length-take (waiting v buffer count) buffer)
@@ -41,10 +44,10 @@ module _ (v : View) (buffer part ys : List ℕ) (count at k : ℕ) (start : at �
       rw (w, t, wrote, start) (sym (grown-grown v (take (waiting v buffer count) buffer) part))
 
 -- what waits goes below
-pub settled : (r : Result Unit Refusal) (v w u : View) (buffer part buffer′ : List ℕ) (count at : ℕ) → at ≡ waiting v buffer count → part ≡ take at buffer → Puts r part v w → u ≡ w → gathered u buffer′ 0 ≡ gathered v buffer count
-settled r v w u buffer part buffer′ count at start is p last =
+pub passed-down : (r : Result Unit Refusal) (v w : View) (buffer part buffer′ : List ℕ) (count at : ℕ) → at ≡ waiting v buffer count → part ≡ take at buffer → Puts r part v w → gathered w buffer′ 0 ≡ gathered v buffer count
+passed-down r v w buffer part buffer′ count at start is p =
     let short : length part ≤ v .room = omega (arith, ap length is, length-take at buffer) in
-    gathered-none u buffer′ ∙ last ∙ took p short .is ∙ rw (is, start)
+    gathered-none w buffer′ ∙ took p short .is ∙ rw (is, start)
 
 -- and then the sink below is all of it
 pub below-all : (v u : View) (buffer : List ℕ) (count : ℕ) → waiting v buffer count ≡ 0 → gathered v buffer count ≡ u → v ≡ u

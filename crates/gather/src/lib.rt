@@ -8,6 +8,9 @@ ghost use Rattle.gather.specs.Gathers.{mostWaiting, waiting, gathered, gathere
 use sink::Sink;
 use sink::refusal::Refusal;
 
+#[cfg(test)]
+mod tests;
+
 // The most bytes that a layer holds back.
 const MOST: usize = 64;
 
@@ -52,6 +55,17 @@ impl<S: Sink> Gather<S> {
         buffer.len().min(MOST) - self.waiting()
     }
 
+    // Passes down what waits.
+    fn pass_down(&mut self)
+        ensures same { λ _. ⌜ gathered (S·Sink .view (now (self .exit) .below)) (now (self .exit) .buffer) (now (self .exit) .count) ≡ gathered (S·Sink .view (now (self .entry) .below)) (now (self .entry) .buffer) (now (self .entry) .count) ⌝ }
+        ensures none { λ _. ⌜ waiting (S·Sink .view (now (self .exit) .below)) (now (self .exit) .buffer) (now (self .exit) .count) ≡ 0 ⌝ }
+        ensures empty { λ _. ⌜ now (self .exit) .count ≡ 0 ⌝ }
+    {
+        let at = self.waiting();
+        let _ = self.below.put(&self.buffer[..at]);
+        self.count = 0;
+    }
+
     // Lets part wait too.
     fn hold(&mut self, part: &[u8])
         requires fits { ⌜ waiting (S·Sink .view (now self .below)) (now self .buffer) (now self .count) + length (now part) ≤ min mostWaiting (length (now self .buffer)) ⌝ }
@@ -89,7 +103,7 @@ pub impl<S: Sink> Sink for Gather<S> as GatherSink {
             self.hold(part);
             return Ok(());
         }
-        self.settle();
+        self.pass_down();
         if n <= self.spare() {
             self.hold(part);
             return Ok(());
@@ -110,9 +124,7 @@ pub impl<S: Sink> Sink for Gather<S> as GatherSink {
     }
 
     fn settle(&mut self) {
-        let at = self.waiting();
-        let _ = self.below.put(&self.buffer[..at]);
-        self.count = 0;
+        self.pass_down();
         self.below.settle();
     }
 }

@@ -31,9 +31,9 @@ impl<'a> Plain<'a> {
         ensures count { λ r. ⌜ r ≡ length (memoryView (now (self .entry .memory)) (self .entry .len) (ghostName (self .entry .memory)) .bytes) ⌝ }
         ensures lands { λ _. ⌜ now (self .exit .0) ≡ memoryView (now (self .entry .memory)) (self .entry .len) (ghostName (self .entry .memory)) .bytes ++ memoryView (now (self .entry .memory)) (self .entry .len) (ghostName (self .entry .memory)) .beyond ⌝ }
     {
-        let n = self.len();
+        let count = self.len();
         let Plain { memory: _, len: _ } = self;
-        n
+        count
     }
 }
 

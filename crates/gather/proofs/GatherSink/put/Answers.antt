@@ -17,9 +17,9 @@ hold-requires g c κs =
 
 pub hold-requires-then-n-spare-2 : need.hold-requires-then-n-spare-2
 hold-requires-then-n-spare-2 g c κs =
-    let s = c .settle .last .self in
-    let none : waiting (g .S·Sink .view (s .below)) (s .buffer) (s .count) ≡ 0 = omega (arith, c .settle .ensures .none-held) in
-    let all = below-all _ _ _ _ none (c .settle .ensures .same) in
+    let s = c .pass-down .last .self in
+    let none : waiting (g .S·Sink .view (s .below)) (s .buffer) (s .count) ≡ 0 = c .pass-down .ensures .none in
+    let all = below-all _ _ _ _ none (c .pass-down .ensures .same) in
     let left = ap (λ (v : View). v .room) all in
     record { fits = omega arith; room = omega arith }
 
@@ -42,7 +42,7 @@ returns-then-n-spare g c =
 pub returns-then-n-spare-2 : need.returns-then-n-spare-2
 returns-then-n-spare-2 g c =
     let full : length (c .args .self .now .buffer) ≡ 64 = search needs in
-    let same = ap (λ v. grown v (c .args .part .now)) (c .settle .ensures .same) in
+    let same = ap (λ v. grown v (c .args .part .now)) (c .pass-down .ensures .same) in
     record {
       puts = puts-taken (omega (arith, c .room .ensures)) (c .hold-then-n-spare-2 .ensures .after ∙ same);
       stays = stays-if-taken;
@@ -52,9 +52,9 @@ returns-then-n-spare-2 g c =
 pub returns : need.returns
 returns g c =
     let full : length (c .args .self .now .buffer) ≡ 64 = search needs in
-    let s = c .settle .last .self in
-    let none : waiting (g .S·Sink .view (s .below)) (s .buffer) (s .count) ≡ 0 = omega (arith, c .settle .ensures .none-held) in
-    let all = below-all _ _ _ _ none (c .settle .ensures .same) in
+    let s = c .pass-down .last .self in
+    let none : waiting (g .S·Sink .view (s .below)) (s .buffer) (s .count) ≡ 0 = c .pass-down .ensures .none in
+    let all = below-all _ _ _ _ none (c .pass-down .ensures .same) in
     let left = ap (λ (v : View). v .room) all in
     let fits : length (c .args .part .now) ≤ g .S·Sink .view (s .below) .room = omega (arith, c .room .ensures) in
     record {
