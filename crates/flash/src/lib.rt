@@ -6,8 +6,9 @@ ghost use denote.Ref.{now};
 ghost use denote.Ref.{name as ghostName};
 ghost use lib.ListN.{length, set};
 ghost use lib.Seq.{paste};
-ghost use Rattle.sink.specs.Memory.{memoryView, freshView, memory-lawful};
+ghost use Rattle.sink.specs.Memory.{freshView};
 ghost use Rattle.flash.specs.Words.{flat};
+ghost use Rattle.flash.specs.FlashMemory.{flashView, flash-lawful};
 use sink::Sink;
 use sink::refusal::Refusal;
 
@@ -44,15 +45,15 @@ fn set_bytes(words: &mut [u32], at: usize, part: &[u8])
 impl<'a> Flash<'a> {
     // An empty sink over these words.
     pub fn new(words: &'a mut [u32]) -> Flash<'a>
-        ensures { λ r. ⌜ memoryView (flat (now (r .words))) (r .len) (ghostName (r .words)) ≡ freshView (flat (now (words .entry))) (ghostName (words .entry)) ⌝ }
+        ensures { λ r. ⌜ flashView r ≡ freshView (flat (now (words .entry))) (ghostName (words .entry)) ⌝ }
     {
         Flash { words, len: 0 }
     }
 
     // Ends the loan, and says how many bytes the sink had: they stand first in the words, and what was beyond follows.
     pub fn close(self) -> usize
-        ensures count { λ r. ⌜ r ≡ length (memoryView (flat (now (self .entry .words))) (self .entry .len) (ghostName (self .entry .words)) .bytes) ⌝ }
-        ensures lands { λ _. ⌜ flat (now (self .exit .0)) ≡ memoryView (flat (now (self .entry .words))) (self .entry .len) (ghostName (self .entry .words)) .bytes ++ memoryView (flat (now (self .entry .words))) (self .entry .len) (ghostName (self .entry .words)) .beyond ⌝ }
+        ensures count { λ r. ⌜ r ≡ length (flashView (self .entry) .bytes) ⌝ }
+        ensures lands { λ _. ⌜ flat (now (self .exit .0)) ≡ flashView (self .entry) .bytes ++ flashView (self .entry) .beyond ⌝ }
     {
         let count = self.len();
         let Flash { words: _, len: _ } = self;
@@ -61,13 +62,13 @@ impl<'a> Flash<'a> {
 }
 
 pub impl Sink for Flash<'_> as FlashSink {
-    ghost view = { λ s. memoryView (flat (now (s .words))) (s .len) (ghostName (s .words)) };
+    ghost view = { flashView };
 
     ghost held = { λ _. 0 };
 
     ghost memory = { λ s. flat (now (s .words)) };
 
-    ghost lawful = { λ s. memory-lawful (flat (now (s .words))) (s .len) (ghostName (s .words)) };
+    ghost lawful = { flash-lawful };
 
     fn put(&mut self, part: &[u8]) -> Result<(), Refusal> {
         let n = part.len();

@@ -4,7 +4,8 @@ ghost use Prim.Native.Nat.{_+_, _-_, _≤_, min};
 ghost use denote.Ref.{now};
 ghost use lib.ListN.{length};
 ghost use Rattle.sink.specs.Meaning.{grown, Puts, StaysIfRefused};
-ghost use Rattle.gather.specs.Gathers.{mostWaiting, waiting, gathered, gathered-lawful, WaitsIfShort};
+ghost use Rattle.gather.specs.Gathers.{mostWaiting, gathered-lawful, WaitsIfShort};
+ghost use Rattle.gather.specs.Layers.{layerView, waitingIn};
 use sink::Sink;
 use sink::refusal::Refusal;
 
@@ -25,8 +26,8 @@ pub struct Gather<S> {
 impl<S: Sink> Gather<S> {
     // A layer over a sink, with nothing waiting.
     pub fn new(below: S) -> Gather<S>
-        ensures same { λ r. ⌜ gathered (S·Sink .view (r .below)) (r .buffer) (r .count) ≡ S·Sink .view below ⌝ }
-        ensures none { λ r. ⌜ waiting (S·Sink .view (r .below)) (r .buffer) (r .count) ≡ 0 ⌝ }
+        ensures same { λ r. ⌜ layerView (S·Sink .view) r ≡ S·Sink .view below ⌝ }
+        ensures none { λ r. ⌜ waitingIn (S·Sink .view) r ≡ 0 ⌝ }
         ensures sink { λ r. ⌜ r .below ≡ below ⌝ }
     {
         Gather {
@@ -38,7 +39,7 @@ impl<S: Sink> Gather<S> {
 
     // How many bytes wait in this layer.
     pub fn waiting(&self) -> usize
-        ensures value { λ r. ⌜ r ≡ waiting (S·Sink .view (now (self .entry) .below)) (now (self .entry) .buffer) (now (self .entry) .count) ⌝ }
+        ensures value { λ r. ⌜ r ≡ waitingIn (S·Sink .view) (now (self .entry)) ⌝ }
         ensures bound { λ r. ⌜ r ≤ mostWaiting ⌝ }
     {
         let buffer: &[u8] = &self.buffer;
@@ -49,7 +50,7 @@ impl<S: Sink> Gather<S> {
 
     // How many more may wait.
     fn spare(&self) -> usize
-        ensures { λ r. ⌜ r ≡ min mostWaiting (length (now (self .entry) .buffer)) - waiting (S·Sink .view (now (self .entry) .below)) (now (self .entry) .buffer) (now (self .entry) .count) ⌝ }
+        ensures { λ r. ⌜ r ≡ min mostWaiting (length (now (self .entry) .buffer)) - waitingIn (S·Sink .view) (now (self .entry)) ⌝ }
     {
         let buffer: &[u8] = &self.buffer;
         buffer.len().min(MOST) - self.waiting()
@@ -57,8 +58,8 @@ impl<S: Sink> Gather<S> {
 
     // Passes down what waits.
     fn pass_down(&mut self)
-        ensures same { λ _. ⌜ gathered (S·Sink .view (now (self .exit) .below)) (now (self .exit) .buffer) (now (self .exit) .count) ≡ gathered (S·Sink .view (now (self .entry) .below)) (now (self .entry) .buffer) (now (self .entry) .count) ⌝ }
-        ensures none { λ _. ⌜ waiting (S·Sink .view (now (self .exit) .below)) (now (self .exit) .buffer) (now (self .exit) .count) ≡ 0 ⌝ }
+        ensures same { λ _. ⌜ layerView (S·Sink .view) (now (self .exit)) ≡ layerView (S·Sink .view) (now (self .entry)) ⌝ }
+        ensures none { λ _. ⌜ waitingIn (S·Sink .view) (now (self .exit)) ≡ 0 ⌝ }
         ensures empty { λ _. ⌜ now (self .exit) .count ≡ 0 ⌝ }
     {
         let at = self.waiting();
@@ -66,13 +67,22 @@ impl<S: Sink> Gather<S> {
         self.count = 0;
     }
 
+    // Settles the sink below, and leaves the layer's own part as it is.
+    fn settle_below(&mut self)
+        ensures same { λ _. ⌜ S·Sink .view (now (self .exit) .below) ≡ S·Sink .view (now (self .entry) .below) ⌝ }
+        ensures none_held { λ _. ⌜ S·Sink .held (now (self .exit) .below) ≡ 0 ⌝ }
+        ensures count { λ _. ⌜ now (self .exit) .count ≡ now (self .entry) .count ⌝ }
+    {
+        self.below.settle();
+    }
+
     // Lets part wait too.
     fn hold(&mut self, part: &[u8])
-        requires fits { ⌜ waiting (S·Sink .view (now self .below)) (now self .buffer) (now self .count) + length (now part) ≤ min mostWaiting (length (now self .buffer)) ⌝ }
-        requires room { ⌜ waiting (S·Sink .view (now self .below)) (now self .buffer) (now self .count) + length (now part) ≤ S·Sink .view (now self .below) .room ⌝ }
-        ensures after { λ _. ⌜ gathered (S·Sink .view (now (self .exit) .below)) (now (self .exit) .buffer) (now (self .exit) .count) ≡ grown (gathered (S·Sink .view (now (self .entry) .below)) (now (self .entry) .buffer) (now (self .entry) .count)) (now (part .entry)) ⌝ }
+        requires fits { ⌜ waitingIn (S·Sink .view) (now self) + length (now part) ≤ min mostWaiting (length (now self .buffer)) ⌝ }
+        requires room { ⌜ waitingIn (S·Sink .view) (now self) + length (now part) ≤ S·Sink .view (now self .below) .room ⌝ }
+        ensures after { λ _. ⌜ layerView (S·Sink .view) (now (self .exit)) ≡ grown (layerView (S·Sink .view) (now (self .entry))) (now (part .entry)) ⌝ }
         ensures below { λ _. ⌜ now (self .exit) .below ≡ now (self .entry) .below ⌝ }
-        ensures more { λ _. ⌜ waiting (S·Sink .view (now (self .exit) .below)) (now (self .exit) .buffer) (now (self .exit) .count) ≡ waiting (S·Sink .view (now (self .entry) .below)) (now (self .entry) .buffer) (now (self .entry) .count) + length (now (part .entry)) ⌝ }
+        ensures more { λ _. ⌜ waitingIn (S·Sink .view) (now (self .exit)) ≡ waitingIn (S·Sink .view) (now (self .entry)) + length (now (part .entry)) ⌝ }
     {
         let at = self.waiting();
         let end = at + part.len();
@@ -82,18 +92,18 @@ impl<S: Sink> Gather<S> {
 }
 
 pub impl<S: Sink> Sink for Gather<S> as GatherSink {
-    ghost view = { λ s. gathered (S·Sink .view (s .below)) (s .buffer) (s .count) };
+    ghost view = { layerView (S·Sink .view) };
 
-    ghost held = { λ s. S·Sink .held (s .below) + waiting (S·Sink .view (s .below)) (s .buffer) (s .count) };
+    ghost held = { λ s. S·Sink .held (s .below) + waitingIn (S·Sink .view) s };
 
     ghost memory = { λ s. S·Sink .memory (s .below) };
 
     ghost lawful = { λ s. gathered-lawful (S·Sink .view (s .below)) (s .buffer) (s .count) (S·Sink .lawful (s .below)) };
 
     fn put(&mut self, part: &[u8]) -> Result<(), Refusal>
-        ensures puts { λ r. ⌜ Puts r (now (part .entry)) (gathered (S·Sink .view (now (self .entry) .below)) (now (self .entry) .buffer) (now (self .entry) .count)) (gathered (S·Sink .view (now (self .exit) .below)) (now (self .exit) .buffer) (now (self .exit) .count)) ⌝ }
-        ensures stays { λ r. ⌜ StaysIfRefused r (S·Sink .held (now (self .entry) .below) + waiting (S·Sink .view (now (self .entry) .below)) (now (self .entry) .buffer) (now (self .entry) .count)) (S·Sink .held (now (self .exit) .below) + waiting (S·Sink .view (now (self .exit) .below)) (now (self .exit) .buffer) (now (self .exit) .count)) (S·Sink .memory (now (self .entry) .below)) (S·Sink .memory (now (self .exit) .below)) ⌝ }
-        ensures gathers { λ r. ⌜ WaitsIfShort r (length (now (part .entry))) (waiting (S·Sink .view (now (self .entry) .below)) (now (self .entry) .buffer) (now (self .entry) .count)) (waiting (S·Sink .view (now (self .exit) .below)) (now (self .exit) .buffer) (now (self .exit) .count)) (S·Sink .view (now (self .entry) .below)) (S·Sink .view (now (self .exit) .below)) ⌝ }
+        ensures puts { λ r. ⌜ Puts r (now (part .entry)) (layerView (S·Sink .view) (now (self .entry))) (layerView (S·Sink .view) (now (self .exit))) ⌝ }
+        ensures stays { λ r. ⌜ StaysIfRefused r (S·Sink .held (now (self .entry) .below) + waitingIn (S·Sink .view) (now (self .entry))) (S·Sink .held (now (self .exit) .below) + waitingIn (S·Sink .view) (now (self .exit))) (S·Sink .memory (now (self .entry) .below)) (S·Sink .memory (now (self .exit) .below)) ⌝ }
+        ensures gathers { λ r. ⌜ WaitsIfShort r (length (now (part .entry))) (waitingIn (S·Sink .view) (now (self .entry))) (waitingIn (S·Sink .view) (now (self .exit))) (S·Sink .view (now (self .entry) .below)) (S·Sink .view (now (self .exit) .below)) ⌝ }
     {
         let n = part.len();
         if n > (*self).room() {
@@ -125,6 +135,6 @@ pub impl<S: Sink> Sink for Gather<S> as GatherSink {
 
     fn settle(&mut self) {
         self.pass_down();
-        self.below.settle();
+        self.settle_below();
     }
 }

@@ -4,7 +4,8 @@ ghost use mathlib.Core.List.{_++_};
 ghost use denote.Ref.{now};
 ghost use denote.Ref.{name as ghostName};
 ghost use lib.ListN.{length};
-ghost use Rattle.sink.specs.Memory.{memoryView, freshView, memory-lawful};
+ghost use Rattle.sink.specs.Memory.{freshView};
+ghost use Rattle.sink.specs.PlainMemory.{plainView, plain-lawful};
 use crate::Sink;
 use crate::refusal::Refusal;
 
@@ -21,15 +22,15 @@ pub struct Plain<'a> {
 impl<'a> Plain<'a> {
     // An empty sink over this memory.
     pub fn new(memory: &'a mut [u8]) -> Plain<'a>
-        ensures { λ r. ⌜ memoryView (now (r .memory)) (r .len) (ghostName (r .memory)) ≡ freshView (now (memory .entry)) (ghostName (memory .entry)) ⌝ }
+        ensures { λ r. ⌜ plainView r ≡ freshView (now (memory .entry)) (ghostName (memory .entry)) ⌝ }
     {
         Plain { memory, len: 0 }
     }
 
     // Ends the loan, and says how many bytes the sink had: they stand first in the memory, and what was beyond follows.
     pub fn close(self) -> usize
-        ensures count { λ r. ⌜ r ≡ length (memoryView (now (self .entry .memory)) (self .entry .len) (ghostName (self .entry .memory)) .bytes) ⌝ }
-        ensures lands { λ _. ⌜ now (self .exit .0) ≡ memoryView (now (self .entry .memory)) (self .entry .len) (ghostName (self .entry .memory)) .bytes ++ memoryView (now (self .entry .memory)) (self .entry .len) (ghostName (self .entry .memory)) .beyond ⌝ }
+        ensures count { λ r. ⌜ r ≡ length (plainView (self .entry) .bytes) ⌝ }
+        ensures lands { λ _. ⌜ now (self .exit .0) ≡ plainView (self .entry) .bytes ++ plainView (self .entry) .beyond ⌝ }
     {
         let count = self.len();
         let Plain { memory: _, len: _ } = self;
@@ -38,13 +39,13 @@ impl<'a> Plain<'a> {
 }
 
 pub impl Sink for Plain<'_> as PlainSink {
-    ghost view = { λ s. memoryView (now (s .memory)) (s .len) (ghostName (s .memory)) };
+    ghost view = { plainView };
 
     ghost held = { λ _. 0 };
 
     ghost memory = { λ s. now (s .memory) };
 
-    ghost lawful = { λ s. memory-lawful (now (s .memory)) (s .len) (ghostName (s .memory)) };
+    ghost lawful = { plain-lawful };
 
     fn put(&mut self, part: &[u8]) -> Result<(), Refusal> {
         let n = part.len();
