@@ -1,4 +1,4 @@
--- White space, comments and tokens at the front of a text. Assumes nothing.
+-- White space, comments and tokens at the front of a text.
 use mathlib.Core.Path.{_≡_, refl, sym}
 use mathlib.Core.Bool.{Bool, true, false, not}
 use mathlib.Core.List.{List, [], _∷_, _++_}

@@ -1,4 +1,4 @@
--- The laws of reading. Assumes nothing.
+-- The laws of reading.
 use mathlib.Core.Path.{_≡_, refl, sym, ap, _∙_}
 use mathlib.Core.Bool.{true, false}
 use mathlib.Core.List.{List, [], _∷_, _++_, append-assoc}

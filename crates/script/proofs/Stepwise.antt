@@ -1,4 +1,4 @@
--- A reading goes step by step: each word leaves less to read. Assumes nothing.
+-- A reading goes step by step: each word leaves less to read.
 use mathlib.Core.Path.{_≡_, refl, ap}
 use mathlib.Core.Bool.{false}
 use mathlib.Core.List.{List, [], _∷_}

@@ -1,4 +1,4 @@
--- What the reading of a text is, from the item that a reader found in it. Assumes nothing.
+-- What the reading of a text is, from the item that a reader found in it.
 use mathlib.Core.Path.{_≡_, refl, sym, ap, _∙_}
 use mathlib.Core.List.{List, [], _∷_, _++_, append-assoc, append-nil}
 use Prim.Native.Nat.{ℕ, _+_, _≤_, _<_}

@@ -1,4 +1,4 @@
--- One turn of the loops that go through a text by places. Assumes nothing.
+-- One turn of the loops that go through a text by places.
 use mathlib.Core.Path.{_≡_, refl, sym, ap, _∙_}
 use mathlib.Core.Bool.{Bool, true, false, not}
 use mathlib.Core.List.{List, [], _∷_}

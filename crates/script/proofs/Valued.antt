@@ -1,4 +1,4 @@
--- The value of digits, a digit more at each turn. Assumes nothing.
+-- The value of digits, a digit more at each turn.
 use mathlib.Core.Path.{_≡_, refl, sym, ap, _∙_}
 use mathlib.Core.List.{List, [], _∷_}
 use mathlib.Core.Bool.{true}

@@ -1,4 +1,4 @@
--- The digits of a word are read back as the word. Assumes nothing.
+-- The digits of a word are read back as the word.
 use mathlib.Core.Path.{_≡_, ap, _∙_}
 use mathlib.Core.Bool.{true}
 use mathlib.Core.List.{_∷_}

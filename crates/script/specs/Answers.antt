@@ -1,4 +1,4 @@
--- What the calls answer, from what the text reads as. Assumes nothing.
+-- What the calls answer, from what the text reads as.
 use mathlib.Core.Bool.{cond}
 use mathlib.Core.List.{List, [], _∷_, _++_}
 use Prim.Native.Nat.{ℕ, _-_}

@@ -1,4 +1,4 @@
--- Hexadecimal digits: the value of one, and the eight digits that write a word. Assumes nothing.
+-- Hexadecimal digits: the value of one, and the eight digits that write a word.
 use mathlib.Core.Bool.{cond, _&&_}
 use mathlib.Core.List.{List, [], _∷_}
 use Prim.Native.Nat.{ℕ, zero, suc, _+_, _-_, _/_, _%_, _^_}

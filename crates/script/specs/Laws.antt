@@ -1,4 +1,4 @@
--- The laws of reading, in the words of one who writes a script. Assumes nothing.
+-- The laws of reading, in the words of one who writes a script.
 use mathlib.Core.Path.{_≡_}
 use mathlib.Core.Bool.{true, false}
 use mathlib.Core.List.{List, [], _∷_, _++_}

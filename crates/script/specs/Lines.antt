@@ -1,4 +1,4 @@
--- Where a byte of a text stands: its line and its column, both from 1. Assumes nothing.
+-- Where a byte of a text stands: its line and its column, both from 1.
 use mathlib.Core.Bool.{Bool, not}
 use mathlib.Core.List.{List}
 use Prim.Native.Nat.{ℕ, _+_}

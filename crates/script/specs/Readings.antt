@@ -1,5 +1,5 @@
 -- What a script's text reads as: its words one after another, up to its end or to the first that
--- cannot be read. Definitions work on the bytes that are left, and hold no places. Assumes nothing.
+-- cannot be read. Definitions work on the bytes that are left, and hold no places.
 use mathlib.Core.Bool.{Bool, true, false, not, _&&_, _||_}
 use mathlib.Core.List.{List, [], _∷_}
 use Prim.Native.Nat.{ℕ, zero, suc}

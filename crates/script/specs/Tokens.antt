@@ -1,4 +1,4 @@
--- A token, the bytes that stand for one word of a script, and the number that it writes. Assumes nothing.
+-- A token, the bytes that stand for one word of a script, and the number that it writes.
 use mathlib.Core.Bool.{Bool, cond, _&&_, _||_}
 use mathlib.Core.List.{List, [], _∷_}
 use Prim.Native.Nat.{ℕ, zero, suc, _+_, _*_}

@@ -1,4 +1,4 @@
--- The first record that passes a test, and the steps of a loop that looks for it. Assumes nothing.
+-- The first record that passes a test, and the steps of a loop that looks for it.
 use native.Mathlib.Omega.{arith}
 use mathlib.Core.Path.{_≡_, refl, sym, ap, _∙_}
 use mathlib.Core.Bool.{Bool, true, false, cond}

@@ -1,4 +1,4 @@
--- The front of a memory m, of c records, and what one record more or less makes of it. Assumes nothing.
+-- The front of a memory m, of c records, and what one record more or less makes of it.
 use native.Mathlib.Omega.{arith}
 use mathlib.Core.Path.{_≡_, refl, sym, ap, _∙_}
 use mathlib.Core.List.{List, [], _∷_, _++_}

@@ -1,4 +1,4 @@
--- What it is to find the first record of a list. Assumes nothing.
+-- What it is to find the first record of a list.
 use mathlib.Core.Path.{_≡_}
 use mathlib.Core.Bool.{Bool, cond}
 use mathlib.Core.List.{List, [], _∷_}

@@ -1,4 +1,4 @@
--- What a tray holds: the front of its memory. Assumes nothing.
+-- What a tray holds: the front of its memory.
 use base.Fml.{GName}
 use mathlib.Core.Path.{_≡_}
 use mathlib.Core.Bool.{cond}
