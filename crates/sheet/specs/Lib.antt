@@ -7,5 +7,11 @@ pub mod Sheet
 pub mod Layout
 pub mod Refusals
 pub mod Run
+pub mod Faults
+pub mod Lines
+pub mod Table
+pub mod Objects
+pub mod Instructions
+pub mod Strict
 pub mod Laws
 pub mod Worked

@@ -109,11 +109,23 @@ fits cap s = leb (length (soFar s) + reserve s) cap
 -- Why a word is refused on a sheet, begun on a sink of this room: the first reason that applies.
 abbrev pub judgedWord : ℕ → Sheet → Word → Option WordRefusal
 judgedWord cap s w =
-    elim (isTaken s w) [ false ↦ Some NotTaken | true ↦
-    elim (isKnown s w) [ false ↦ Some NoElement | true ↦
-    elim (isWithin s w) [ false ↦ Some Limit | true ↦
-    elim (isInside s w) [ false ↦ Some Outside | true ↦
-    elim (fits cap (sheetAfter s w)) [ false ↦ Some NoRoom | true ↦ None ] ] ] ] ]
+    elim (isTaken s w) [
+      | false ↦ Some NotTaken
+      | true ↦
+          elim (isKnown s w) [
+            | false ↦ Some NoElement
+            | true ↦
+                elim (isWithin s w) [
+                  | false ↦ Some Limit
+                  | true ↦
+                      elim (isInside s w) [
+                        | false ↦ Some Outside
+                        | true ↦
+                            elim (fits cap (sheetAfter s w)) [ false ↦ Some NoRoom | true ↦ None ]
+                      ]
+                ]
+          ]
+    ]
 
 -- The same of 32 bits.
 abbrev pub judged : ℕ → Sheet → Result Word Refusal → Option WordRefusal

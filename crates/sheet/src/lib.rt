@@ -2,6 +2,7 @@
 ghost use Rattle.sheet.specs.Laws.{Refused-words-draw-nothing, Refused-words-leave-the-sheet, Runs-draw-what-is-due, Every-word-is-obeyed-or-refused};
 ghost use Rattle.sheet.specs.Worked.{Worked-sheets-as-said};
 
+pub mod faults;
 pub mod instructions;
 pub mod items;
 pub mod refusals;
