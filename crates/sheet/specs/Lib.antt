@@ -7,6 +7,7 @@ pub mod Sheet
 pub mod Layout
 pub mod Refusals
 pub mod Run
+pub mod Conditions
 pub mod Faults
 pub mod Lines
 pub mod Table
@@ -15,3 +16,4 @@ pub mod Instructions
 pub mod Strict
 pub mod Laws
 pub mod Worked
+pub mod Damaged
