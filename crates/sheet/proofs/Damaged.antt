@@ -11,7 +11,9 @@ use Rattle.sheet.specs.Layout.{blocks, fileOf, finished, soFar}
 use Rattle.sheet.specs.Objects.{valueIn, objectIn}
 use Rattle.sheet.specs.Run.{wordDone, wordsDone, run}
 use Rattle.sheet.specs.Sheet.{sheetAfter}
-use Rattle.sheet.specs.Strict.{elementsOf, ranThrough, pageRun, readingOf}
+use Rattle.sheet.specs.Running.{ranThrough, pageRun}
+use Rattle.sheet.specs.Strict.{readingOf}
+use Rattle.sheet.specs.Structure.{elementsOf}
 use Rattle.sheet.specs.Table.{afterStart, indexOf}
 use Rattle.sheet.specs.Damaged.{Label-file-reads-as-said}
 

@@ -19,6 +19,7 @@ labelFile = finished (sheetOf labelScript)
 abbrev pub labelReading : Reading
 labelReading = record { pages = 1; elements = (P, 0) ∷ []; items = glyph 720 7000 0 12 65 ∷ glyph 792 7000 0 12 49 ∷ [] }
 
+-- The whole file reads as due, and each damaged copy has its fault: what is changed is told by its name.
 pub record Label-file-reads-as-said : Type 0 where
   pub whole : readingOf labelFile ≡ Ok labelReading
   pub header-changed : readingOf (set labelFile 0 65) ≡ Err (fault Header 0 0)

@@ -53,7 +53,7 @@ unfoldable pub spelledIn : ℕ → List ℕ → Option (Spelled × List ℕ)
 spelledIn zero bs = None
 spelledIn (suc k) bs = bind (token bs) λ r. spelledBy (spelledIn k) (r .0) (operatorIn (r .0)) (r .1)
 
--- The numbers that operands are, if all are numbers.
+-- The number that an operand is.
 abbrev pub intIn : Token → Option ℤ
 intIn (int z) = Some z
 intIn (name s) = None
@@ -64,6 +64,7 @@ intIn arrayClose = None
 intIn dictOpen = None
 intIn dictClose = None
 
+-- The numbers that all operands are.
 abbrev pub intsIn : List Token → Option (List ℤ)
 intsIn [] = Some []
 intsIn (t ∷ ts) = bind (intIn t) λ z. bind (intsIn ts) λ zs. Some (z ∷ zs)
@@ -82,6 +83,7 @@ sameInt (pos m) (negsuc n) = false
 sameInt (negsuc m) (pos n) = false
 sameInt (negsuc m) (negsuc n) = eqb m n
 
+-- Lists of integers are the same.
 abbrev pub sameInts : List ℤ → List ℤ → Bool
 sameInts [] [] = true
 sameInts [] (b ∷ bs) = false
@@ -122,7 +124,7 @@ codesFrom (a ∷ b ∷ []) = when (isCode a && isCode b) (Some (Two a b))
 codesFrom (a ∷ b ∷ c ∷ []) = when (isCode a && (isCode b && isCode c)) (Some (Three a b c))
 codesFrom (a ∷ b ∷ c ∷ d ∷ cs) = None
 
--- The name or the string that a token is.
+-- The name that a token is.
 abbrev pub nameIn : Token → Option (List ℕ)
 nameIn (int z) = None
 nameIn (name s) = Some s
@@ -133,6 +135,7 @@ nameIn arrayClose = None
 nameIn dictOpen = None
 nameIn dictClose = None
 
+-- The string that a token is.
 abbrev pub stringIn : Token → Option (List ℕ)
 stringIn (int z) = None
 stringIn (name s) = None
@@ -143,7 +146,7 @@ stringIn arrayClose = None
 stringIn dictOpen = None
 stringIn dictClose = None
 
--- The token opens or closes a dictionary.
+-- The token opens a dictionary.
 abbrev pub isDictOpen : Token → Bool
 isDictOpen (int z) = false
 isDictOpen (name s) = false
@@ -154,6 +157,7 @@ isDictOpen arrayClose = false
 isDictOpen dictOpen = true
 isDictOpen dictClose = false
 
+-- The token closes a dictionary.
 abbrev pub isDictClose : Token → Bool
 isDictClose (int z) = false
 isDictClose (name s) = false
@@ -186,10 +190,11 @@ fontBy ts =
 abbrev pub showBy : List Token → Option Instruction
 showBy ts = when (eqb (length ts) 1) (bind (bind (stringIn (operand ts 0)) codesFrom) λ shown. Some (Show shown))
 
--- The mark of an artifact, and that of an element.
+-- The mark of an artifact.
 abbrev pub artifactBy : List Token → Option Instruction
 artifactBy ts = when (eqb (length ts) 1) (bind (namesIt (codes "Artifact") (operand ts 0)) λ _. Some Artifact)
 
+-- The mark of an element, by its type and identifier.
 abbrev pub markBy : List Token → Option Instruction
 markBy ts =
     when (eqb (length ts) 5 && (isDictOpen (operand ts 1) && isDictClose (operand ts 4)))

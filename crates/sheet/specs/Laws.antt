@@ -47,5 +47,6 @@ pub record Words-are-obeyed-or-refused (room told : ℕ) (ws : List ℕ) : Type 
   pub words : run room told ws .place ≡ length (take told ws)
   pub notes : length (run room told ws .notes) ≡ countSet (refusedWords room told ws)
 
+-- That holds of every run.
 abbrev pub Every-word-is-obeyed-or-refused : Type 0
 Every-word-is-obeyed-or-refused = (room told : ℕ) (ws : List ℕ) → Words-are-obeyed-or-refused room told ws

@@ -19,19 +19,23 @@ use Rattle.sheet.specs.Sheet.{Page, Sheet, closedSheet}
 abbrev pub header : List ℕ
 header = codes "%PDF-1.7\n%" ++ 0xE2 ∷ 0xE3 ∷ 0xCF ∷ 0xD3 ∷ 10 ∷ []
 
--- The object numbers of page k, of its contents, their Length and its owners; and of element e of a sheet with p pages.
+-- The object number of page k.
 abbrev pub pageNumber : ℕ → ℕ
 pageNumber k = 4 * k + 2
 
+-- The object number of the contents of page k.
 abbrev pub contentsNumber : ℕ → ℕ
 contentsNumber k = 4 * k + 3
 
+-- The object number of their Length.
 abbrev pub lengthNumber : ℕ → ℕ
 lengthNumber k = 4 * k + 4
 
+-- The object number of the owners of page k.
 abbrev pub ownersNumber : ℕ → ℕ
 ownersNumber k = 4 * k + 5
 
+-- The object number of element e in a sheet of p pages.
 abbrev pub elementNumber : ℕ → ℕ → ℕ
 elementNumber p e = 4 * p + 5 + e
 
@@ -60,7 +64,7 @@ contentsStart k = objectStart (contentsNumber k) ++ (render (dict (entry (codes 
 abbrev pub contents : ℕ → Page → Block
 contents k p = record { number = contentsNumber k; bytes = contentsStart k ++ (contentsOf (p .instructions) ++ codes "\nendstream\nendobj\n") }
 
--- The values of the objects, as docs/FORMAT.md shows them.
+-- The catalog. This value and the next are as docs/FORMAT.md shows them.
 abbrev pub catalog : Value
 catalog =
     dict
@@ -69,9 +73,11 @@ catalog =
     (entry (codes "MarkInfo") (dict (entry (codes "Marked") truth end))
     (entry (codes "StructTreeRoot") (ref 4) end))))
 
+-- The page tree, with these pages.
 abbrev pub pageTree : ℕ → Values → Value
 pageTree p kids = dict (entry (codes "Type") (named (codes "Pages")) (entry (codes "Count") (nat p) (entry (codes "Kids") (array kids) end)))
 
+-- The font.
 abbrev pub font : Value
 font =
     dict
@@ -80,6 +86,7 @@ font =
     (entry (codes "BaseFont") (named (codes "Courier"))
     (entry (codes "Encoding") (named (codes "WinAnsiEncoding")) end))))
 
+-- The root of the structure tree, with these kids.
 abbrev pub treeRoot : ℕ → Values → Value
 treeRoot p kids =
     dict
@@ -88,9 +95,11 @@ treeRoot p kids =
     (entry (codes "ParentTree") (ref 5)
     (entry (codes "ParentTreeNextKey") (nat p) end))))
 
+-- The parent tree, with these keys and owners.
 abbrev pub parentTree : Values → Value
 parentTree nums = dict (entry (codes "Nums") (array nums) end)
 
+-- Page k.
 abbrev pub pageValue : ℕ → Page → Value
 pageValue k p =
     dict
@@ -106,10 +115,12 @@ abbrev pub kidValue : ℕ → Kid → Value
 kidValue p (element e) = ref (elementNumber p e)
 kidValue p (mark k i) = dict (entry (codes "Type") (named (codes "MCR")) (entry (codes "Pg") (ref (pageNumber k)) (entry (codes "MCID") (nat i) end)))
 
+-- Kids of the tree, in order.
 abbrev pub kidValues : ℕ → List Kid → Values
 kidValues p [] = none
 kidValues p (k ∷ ks) = kidValue p k ◂ kidValues p ks
 
+-- An element.
 abbrev pub elementValue : ℕ → Element → Value
 elementValue p e =
     dict
@@ -118,11 +129,12 @@ elementValue p e =
     (entry (codes "P") (ref (holderNumber p (e .parent)))
     (entry (codes "K") (array (kidValues p (e .kids))) end))))
 
--- The references to pages from page k on, and the keys with the owners of each.
+-- The references to pages from page k on.
 abbrev pub pageRefs : ℕ → List Page → Values
 pageRefs k [] = none
 pageRefs k (p ∷ ps) = ref (pageNumber k) ◂ pageRefs (k + 1) ps
 
+-- The keys from that of page k on, each with the owners of its page.
 abbrev pub ownersRefs : ℕ → List Page → Values
 ownersRefs k [] = none
 ownersRefs k (p ∷ ps) = nat (k - 1) ◂ ref (ownersNumber k) ◂ ownersRefs (k + 1) ps

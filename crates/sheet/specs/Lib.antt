@@ -13,6 +13,8 @@ pub mod Lines
 pub mod Table
 pub mod Objects
 pub mod Instructions
+pub mod Structure
+pub mod Running
 pub mod Strict
 pub mod Laws
 pub mod Worked

@@ -77,6 +77,7 @@ refAt x key es = bind (fieldIn key es) (target x)
 abbrev pub intAt : List ℕ → Entries → Option ℤ
 intAt key es = bind (fieldIn key es) intOf
 
+-- The number of the entry of this key, if it is not negative.
 abbrev pub natAt : List ℕ → Entries → Option ℕ
 natAt key es = bind (fieldIn key es) natOf
 
@@ -119,11 +120,12 @@ pub record PageObject : Type 0 where
   pub font : ℕ
   pub key : ℤ
 
--- A number is 0; a number is a width or a height.
+-- A number is 0.
 abbrev pub isZeroNumber : Option ℕ → Bool
 isZeroNumber None = false
 isZeroNumber (Some n) = eqb n 0
 
+-- A number is a width or a height.
 abbrev pub isSideNumber : Option ℕ → Bool
 isSideNumber None = false
 isSideNumber (Some n) = isSide n
@@ -169,6 +171,7 @@ pairsFrom x none (Some key) = None
 pairsFrom x (v ◂ vs) None = bind (intOf v) λ key. pairsFrom x vs (Some key)
 pairsFrom x (v ◂ vs) (Some key) = bind (target x v) λ n. bind (pairsFrom x vs None) λ more. Some ((key, n) ∷ more)
 
+-- All keys and what they refer to.
 abbrev pub pairsIn : Index → Values → Option (List (ℤ × ℕ))
 pairsIn x vs = pairsFrom x vs None
 
@@ -180,11 +183,12 @@ parentTreeIn x v = bind (dictOfSize 1 v) λ es. bind (listAt (codes "Nums") es) 
 abbrev pub ownersIn : Index → Value → Option (List ℕ)
 ownersIn x v = bind (listOf v) (targets x)
 
--- The element type of a name.
+-- The type among these that has a name.
 abbrev pub typeFrom : List ElementType → List ℕ → Option ElementType
 typeFrom [] s = None
 typeFrom (t ∷ ts) s = elim (sameBytes s (nameOf t)) [ true ↦ Some t | false ↦ typeFrom ts s ]
 
+-- The element type of a name, if there is one.
 abbrev pub typeNamed : List ℕ → Option ElementType
 typeNamed s = typeFrom (Document ∷ Part ∷ Sect ∷ P ∷ H1 ∷ H2 ∷ L ∷ LI ∷ Figure ∷ Caption ∷ []) s
 
@@ -199,6 +203,7 @@ markIn x v =
     bind (dictOfSize 3 v) λ es. when (nameAt (codes "Type") (codes "MCR") es)
     (bind (refAt x (codes "Pg") es) λ page. bind (natAt (codes "MCID") es) λ i. Some (content page i))
 
+-- A kid of an element.
 abbrev pub kidIn : Index → Value → Option KidObject
 kidIn x (number z) = None
 kidIn x (named s) = None
@@ -207,6 +212,7 @@ kidIn x truth = None
 kidIn x (array vs) = None
 kidIn x (dict es) = markIn x (dict es)
 
+-- The kids of an element.
 abbrev pub kidsIn : Index → Values → Option (List KidObject)
 kidsIn x none = Some []
 kidsIn x (v ◂ vs) = bind (kidIn x v) λ k. bind (kidsIn x vs) λ ks. Some (k ∷ ks)
@@ -217,6 +223,7 @@ pub record ElementObject : Type 0 where
   pub holder : ℕ
   pub kids : List KidObject
 
+-- What the value of an element says.
 abbrev pub elementIn : Index → Value → Option ElementObject
 elementIn x v =
     bind (dictOfSize 4 v) λ es. when (nameAt (codes "Type") (codes "StructElem") es)

@@ -24,17 +24,18 @@ abbrev pub startOf : ℕ → Sheet → ℕ
 startOf n s = offsetOf n (length header) (blocks s)
 
 -- A sink with room for every sheet.
-abbrev pub amplyRoom : ℕ
-amplyRoom = 16777216
+abbrev pub ampleRoom : ℕ
+ampleRoom = 16777216
 
 -- The sheet of a script where there is room enough.
 abbrev pub sheetOf : List ℕ → Sheet
-sheetOf ws = run amplyRoom (length ws) ws .sheet
+sheetOf ws = run ampleRoom (length ws) ws .sheet
 
 -- The notes of one word on an empty sheet, on a sink of this room.
 abbrev pub notesOf : ℕ → ℕ → List Note
 notesOf room w = run room 1 (w ∷ []) .notes
 
+-- A note of the word at this place.
 abbrev pub note : ℕ → ℕ → Note
 note place number = record { place = place; number = number }
 
@@ -63,6 +64,7 @@ abbrev pub firstContents : List Page → List ℕ
 firstContents [] = []
 firstContents (p ∷ ps) = contentsOf (p .instructions)
 
+-- The sheet of no words: its size, where its objects start, and where the table is.
 pub record Empty-sheet-as-said : Type 0 where
   pub size : length (finished noSheet) ≡ 563
   pub catalog-at : startOf 1 noSheet ≡ 15
@@ -72,8 +74,9 @@ pub record Empty-sheet-as-said : Type 0 where
   pub parent-tree-at : startOf 5 noSheet ≡ 350
   pub table-at : length header + length (whole (blocks noSheet)) ≡ 380
 
+-- The label sheet: its contents, where they and two objects start, and its due reading.
 pub record Label-sheet-as-said : Type 0 where
-  pub no-notes : run amplyRoom 9 labelScript .notes ≡ []
+  pub no-notes : run ampleRoom 9 labelScript .notes ≡ []
   pub contents : firstContents (sheetOf labelScript .pages) ≡ labelContents
   pub contents-size : length labelContents ≡ 59
   pub contents-at : take 59 (drop 50 (finished (sheetOf labelScript))) ≡ labelContents
@@ -81,13 +84,14 @@ pub record Label-sheet-as-said : Type 0 where
   pub page-at : startOf 6 (sheetOf labelScript) ≡ 145
   pub due : dueReading labelScript [] ≡ glyph 720 7000 0 12 65 ∷ glyph 792 7000 0 12 49 ∷ []
 
+-- What is refused at which room, and why.
 pub record Refusals-as-said : Type 0 where
   pub room-654 : unbegun 0 longTrays 0 654 ≡ Some LittleRoom
   pub room-655 : unbegun 0 longTrays 0 655 ≡ None
   pub page-at-1073 : notesOf 1073 0x0094C34A ≡ note 0 16 ∷ []
   pub page-at-1074 : notesOf 1074 0x0094C34A ≡ []
-  pub no-such-kind : notesOf amplyRoom 0xD0000000 ≡ note 0 10 ∷ []
-  pub show-without-mark : notesOf amplyRoom 0xC2413100 ≡ note 0 12 ∷ []
+  pub no-such-kind : notesOf ampleRoom 0xD0000000 ≡ note 0 10 ∷ []
+  pub show-without-mark : notesOf ampleRoom 0xC2413100 ≡ note 0 12 ∷ []
 
 -- All of them at once.
 pub record Worked-sheets-as-said : Type 0 where
