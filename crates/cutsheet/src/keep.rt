@@ -29,7 +29,7 @@ fn tell(rt: &LibcRuntime, memory: &str, report: Report) -> Result<(), AnyError> 
 }
 
 // Stores the words in both memories, and says whether they hold the same.
-pub fn print(rt: &LibcRuntime, words: &[u32]) -> Result<(), AnyError> {
+pub(crate) fn print(rt: &LibcRuntime, words: &[u32]) -> Result<(), AnyError> {
     println!(rt, "storing the words through two gathering layers")?;
     let mut plain = vec![in rt.alloc(); 0u8; MEMORY]?;
     let mut flash = vec![in rt.alloc(); 0u32; MEMORY / 4]?;

@@ -25,7 +25,7 @@ const KINDS: [&str; 13] = [
 ];
 
 // The words of a script's text.
-pub fn words_of(heap: Global, text: &[u8]) -> Result<Vec<u32>, AnyError> {
+pub(crate) fn words_of(heap: Global, text: &[u8]) -> Result<Vec<u32>, AnyError> {
     let count = match count_words(text) {
         Ok(count) => count,
         Err(fault) => {
@@ -41,7 +41,7 @@ pub fn words_of(heap: Global, text: &[u8]) -> Result<Vec<u32>, AnyError> {
 }
 
 // Prints a line for each word, and then how many there are of each kind.
-pub fn print(rt: &LibcRuntime, words: &[u32]) -> Result<(), AnyError> {
+pub(crate) fn print(rt: &LibcRuntime, words: &[u32]) -> Result<(), AnyError> {
     let mut counts = vec![in rt.alloc(); 0usize; KINDS.len()]?;
     let mut refused = 0usize;
     for (place, word) in words.iter().enumerate() {
