@@ -26,7 +26,7 @@ use Rattle.sheet.specs.declared.instructions.Instruction.{Instruction}
 use Rattle.sheet.specs.declared.instructions.Instruction.the-variants.{Save, Restore, Origin, Turn, BeginText, Font, EndText, Mark, Artifact, EndMark, Move, Line, Paint, Place, Show}
 use Rattle.sheet.specs.Due.{Drawing, stepped}
 use Rattle.sheet.specs.Faults.{fault, orFault, andThen}
-use Rattle.sheet.specs.Instructions.{instructionIn}
+use Rattle.sheet.specs.Instructions.{instructionIn, orElse}
 use Rattle.sheet.specs.Lines.{bind, after}
 use Rattle.sheet.specs.Objects.{valueIn, afterEnd, syntaxOf, objectIn, PageObject, lengthIn}
 use Rattle.sheet.specs.Table.{Index, when, afterToken}
@@ -163,17 +163,12 @@ abbrev pub whiteFirst : List ℕ → Bool
 whiteFirst [] = false
 whiteFirst (b ∷ bs) = white b
 
--- The first of two that there is.
-abbrev pub firstOf : {A : Type 0} → Option A → Option A → Option A
-firstOf None o = o
-firstOf (Some a) o = Some a
-
 -- The data of contents: as many bytes after `stream` and its line end as Length says, then white space, endstream and
 -- endobj. With the data come all bytes from their start on.
 abbrev pub dataIn : ℕ → List ℕ → Option (List ℕ)
 dataIn n bs =
     bind (afterToken (isWord (codes "stream")) (token bs)) λ rest.
-    bind (firstOf (after (10 ∷ []) rest) (after (13 ∷ 10 ∷ []) rest)) λ from.
+    bind (orElse (after (10 ∷ []) rest) (after (13 ∷ 10 ∷ []) rest)) λ from.
     when (leb n (length from) && whiteFirst (drop n from))
     (bind (afterToken (isWord (codes "endstream")) (token (drop n from))) λ a. bind (afterEnd a) λ _. Some from)
 

@@ -9,14 +9,13 @@ use Rattle.std.specs.declared.result.Result.{Result}
 use Rattle.std.specs.declared.result.Result.the-variants.{Ok}
 use Rattle.page.specs.declared.types.ElementType.{ElementType}
 use Rattle.page.specs.Numbers.{typeNumber}
-use Rattle.machine.specs.State.{stateOf, noNumbers}
 use Rattle.sheet.specs.declared.faults.Fault.{Fault}
 use Rattle.sheet.specs.declared.items.Item.{Item}
-use Rattle.sheet.specs.Due.{Drawing}
+use Rattle.sheet.specs.Due.{noDrawing}
 use Rattle.sheet.specs.Faults.{fault, andThen}
 use Rattle.sheet.specs.Objects.{treeOf, objectIn, catalogIn, pageTreeIn, rootIn, parentTreeIn, below}
 use Rattle.sheet.specs.Table.{Index, indexOf}
-use Rattle.sheet.specs.Tree.{Kid, element, mark, noTree}
+use Rattle.sheet.specs.Tree.{Kid, element, mark}
 use Rattle.sheet.specs.Walk.{Visit, entered, met, walk, placeOf, readAlong}
 use Rattle.sheet.specs.Structure.{provided, pagesIn, fontOf, keysFrom, seconds, ownersOf, Reached, waitingKids, elementsOf}
 use Rattle.sheet.specs.Running.{pagesRun}
@@ -95,10 +94,6 @@ abbrev pub placed : List Visit → List Reached → List (ElementType × ℕ)
 placed vs [] = []
 placed vs (r ∷ rs) = (r .role, placeOf (r .holder) vs) ∷ placed vs rs
 
--- Before the first page.
-abbrev pub undrawn : Drawing
-undrawn = record { machine = stateOf [] noNumbers; tree = noTree; marks = 0; tagged = [] }
-
 -- The reading of a file, or its first fault.
 unfoldable pub readingOf : List ℕ → Result Reading Fault
 readingOf file =
@@ -112,7 +107,7 @@ readingOf file =
     andThen (provided (eqb (length parents) (length ps) && keysFrom 0 parents) (treeOf x (root .1))) λ _.
     andThen (ownersOf file x (seconds parents)) λ owners.
     andThen (elementsOf (length (x .offsets) + 1) file x pages [] 0 (waitingKids (catalog .1) (asKids (root .0)) [])) λ rs.
-    andThen (pagesRun file x undrawn ps) λ ran.
+    andThen (pagesRun file x noDrawing ps) λ ran.
     let vs : List Visit = walk (length rs + 1) (kidsUnder (catalog .1) (root .0) rs) (catalog .1) in
     andThen (allMatched x rs vs 1 (seconds parents) owners (ran .1)) λ _.
     Ok (record { pages = length ps; elements = placed vs rs; items = readAlong vs (ran .0 .tagged) })

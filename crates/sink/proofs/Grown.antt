@@ -30,11 +30,6 @@ pub grown-none : (v : View) → grown v [] ≡ v
 unfolding grown
 grown-none v = same-view (append-nil (v .bytes)) (omega arith) refl refl
 
--- every refusal of a sink is by number 5
-pub refused-by-five : (r : Result Unit Refusal) → refused r (λ e. numberOf e ≡ 5)
-refused-by-five (Ok x) = tt
-refused-by-five (Err Full) = refl
-
 -- a text that has room is taken
 pub puts-taken : {text : List ℕ} {v w : View} → length text ≤ v .room → w ≡ grown v text → Puts (Ok tt) text v w
 puts-taken {text} {v} {w} fits is = record { answers = grind (arith, tells); number = tt; leaves = is }
