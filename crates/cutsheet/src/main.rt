@@ -1,4 +1,6 @@
 // The program: reads a page script and says what each of its words says.
+#![tactic(auto)]
+
 use anyhow::anyhow;
 use std::io::Read;
 use std::{env, fs};

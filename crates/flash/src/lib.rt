@@ -1,4 +1,6 @@
 // A sink over flash: 32-bit words that are lent to it, each of four bytes.
+#![tactic(auto)]
+
 ghost use Rattle.std.specs.Prelude.{◌≡◌, ◌+◌, ◌*◌, ◌<◌, ◌≤◌, ◌++◌, length, slice_set};
 ghost use Rattle.std.proofs.Math.Seq.{paste};
 ghost use Rattle.sink.specs.Memory.{fresh_view};

@@ -1,4 +1,6 @@
 // A layer over any sink that gathers short parts into longer ones.
+#![tactic(auto)]
+
 ghost use Rattle.std.specs.Prelude.{◌≡◌, ◌+◌, ◌-◌, ◌≤◌, min, length};
 ghost use Rattle.sink.specs.Meaning.{grown, Puts, StaysIfRefused};
 ghost use Rattle.gather.specs.Gathers.{most_waiting, gathered_lawful, WaitsIfShort};

@@ -1,4 +1,6 @@
 // Numbers and lines into any sink.
+#![tactic(auto)]
+
 ghost use Rattle.std.specs.Prelude.{◌≡◌, ◌≤◌, [], ◌∷◌, ◌++◌, length, drop, decimal};
 ghost use Rattle.sink.specs.Meaning.{Puts, StaysIfRefused};
 

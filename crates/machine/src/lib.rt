@@ -1,4 +1,6 @@
 // The page machine: what is open, where things stand, and what each step draws.
+#![tactic(auto)]
+
 mod drawing;
 mod machine;
 mod places;

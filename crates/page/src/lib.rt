@@ -1,4 +1,6 @@
 // The words of a page script: their types, and the 32 bits that stand for each.
+#![tactic(auto)]
+
 mod decoding;
 mod encoding;
 mod fields;

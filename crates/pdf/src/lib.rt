@@ -1,5 +1,7 @@
 // What a PDF file's numbers, tokens, values and blocks are, and the laws of them: what is written is read back.
 // The definitions stand in specs/; each call here carries a theorem of them.
+#![tactic(auto)]
+
 ghost use Rattle.pdf.specs.Laws.{RunsAreLongest, NumbersReadBack, PaddedNumbersReadBack};
 ghost use Rattle.pdf.specs.Laws.{TokensReadBack, GapsDoNotMatter, ValuesReadBack};
 ghost use Rattle.pdf.specs.Laws.{ReadingTakesBytes, ReadingIsStrict, BlocksStandAtTheirOffsets};

@@ -3,6 +3,7 @@
 // A script is hexadecimal words, with or without 0x, in digits of either case, one to eight of them,
 // separated by white space. The sign # opens a comment that runs to the end of the line, also right
 // behind a word.
+#![tactic(auto)]
 
 pub mod digit;
 pub mod load;

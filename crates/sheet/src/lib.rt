@@ -1,4 +1,6 @@
 // The subject itself: what a script draws, what its sheet is, and what a run of words does. Its calls carry theorems.
+#![tactic(auto)]
+
 ghost use Rattle.sheet.specs.Laws.{RefusedWordsDrawNothing, RefusedWordsLeaveTheSheet, RunsDrawWhatIsDue, EveryWordIsObeyedOrRefused};
 ghost use Rattle.sheet.specs.Conditions.{RefusedByTheFirstCondition, ObeyedWithoutCondition};
 ghost use Rattle.sheet.specs.Damaged.{LabelFileReadsAsSaid};

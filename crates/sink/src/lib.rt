@@ -1,4 +1,6 @@
 // Where bytes go: what every sink promises.
+#![tactic(auto)]
+
 ghost use Rattle.std.specs.Prelude.{◌≡◌, ℕ, List, length};
 ghost use Rattle.sink.specs.Meaning.{View, Lawful, Puts, StaysIfRefused};
 

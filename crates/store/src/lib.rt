@@ -1,4 +1,6 @@
 // A script's words kept in any sink, through a pile of two gathering layers.
+#![tactic(auto)]
+
 ghost use Rattle.std.specs.Prelude.{◌≡◌, ◌-◌, ◌++◌, length, drop, is_ok, if◌then◌else◌};
 ghost use Rattle.sink.specs.Meaning.{Puts, StaysIfRefused, answer};
 ghost use Rattle.sink.specs.Memory.{capacity};

@@ -1,4 +1,6 @@
 // Lists of records in lent memory: the tray and its methods.
+#![tactic(auto)]
+
 ghost use Rattle.std.specs.Prelude.{◌≡◌, ◌+◌, ◌≤◌, true, [], ◌∷◌, ◌++◌, length, take, drop, replicate, is_ok, is_err, if◌then◌else◌, Ok, Err, nat_lt};
 ghost use Rattle.std.specs.List.{slice_get};
 ghost use Rattle.tray.specs.Finds.{with_key, first_with, FirstWith};
