@@ -7,7 +7,7 @@ use Rattle.page.proofs.decoding.decode.Goals as goal
 
 pub returns-in-Some : goal.returns-in-Some
 returns-in-Some c =
-    let same : c.ok-or.result ≡ decoded c.args.word = search rules in
+    let same : c.ok_or.result ≡ decoded c.args.word = search rules in
     record {
       value = same;
       undone = λ w e. decode_undone c.args.word w (sym same ∙ e);

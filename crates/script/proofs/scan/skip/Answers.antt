@@ -4,7 +4,7 @@ use Rattle.std.proofs.lemmas.Bool.Decides.{nat_tests}
 use Rattle.script.specs.Readings.{white, in_token, skip_from}
 use Rattle.script.proofs.Turns.{skip_more, skip_in_comment, skip_into_comment, skip_over_white, skip_token, skip_end}
 use Rattle.script.proofs.scan.skip.Goals as goal
-use Rattle.script.proofs.scan.skip.Goals.{then-comment, else-comment+then-byte-eq35, else-comment+else-byte-eq35+else-not-is-white}
+use Rattle.script.proofs.scan.skip.Goals.{then-comment, else-comment+then-byte-eq35, else-comment+else-byte-eq35+else-not-is_white}
 
 pub returns-then-not-is-white : goal.returns-then-not-is-white
 returns-then-not-is-white c =
@@ -23,10 +23,10 @@ loop-i-preserved c =
     let next = c.if-comment.comment in
     let turned : skip_from c.loop-i.comment (x ∷ after) ≡ skip_from next after =
     elim c.if-comment.branch [
-      | then-comment w ↦ skip_in_comment x after _ next w.if-comment.true (w.comment-is ∙ ap not w.ends-comment-comment.ensures)
+      | then-comment w ↦ skip_in_comment x after _ next w.if-comment.true (w.comment-is ∙ ap not w.ends_comment-comment.ensures)
       | else-comment+then-byte-eq35 w ↦ skip_into_comment x after _ next w.if-comment.false w.if-byte-eq35.true w.comment-is
-      | else-comment+else-byte-eq35+else-not-is-white w ↦ (
-          let t : white x ≡ true = sym w.is-white.ensures ∙ w.if-not-is-white.false in
+      | else-comment+else-byte-eq35+else-not-is_white w ↦ (
+          let t : white x ≡ true = sym w.is_white.ensures ∙ w.if-not-is-white.false in
           skip_over_white x after _ next w.if-comment.false t w.comment-is)
     ]
     in

@@ -5,4 +5,4 @@ use Rattle.script.proofs.token.word_in.Goals as goal
 
 pub returns : goal.returns
 unfolding word_in
-returns c = c.value-of.ensures ∙ ap value_of c.digits-in.ensures
+returns c = c.value_of.ensures ∙ ap value_of c.digits_in.ensures

@@ -9,7 +9,7 @@ pub returns-then-key : goal.returns-then-key
 returns-then-key g c =
     let here : with_key g.T.Keyed.key c.args.key c.x-item.result ≡ true = eq-eqb _ _ (sym c.key.ensures ∙ c.if-key.true) in
     let e = found_at _ _ c.loop-x.x-index c.loop-x.invariant _ c.loop-x-test.true c.x-item.is here in
-    let v = rw c.as-slice-x-items.ensures at e in
+    let v = rw c.as_slice-x-items.ensures at e in
     record { value = v; first = first_with_key g.T.Keyed.key c.args.key _ _ v }
 
 pub loop-x-preserved : goal.loop-x-preserved
@@ -19,5 +19,5 @@ loop-x-preserved g c =
 pub returns : goal.returns
 returns g c =
     let e = found_none _ _ c.loop-x.x-index c.loop-x.invariant c.loop-x-test.false in
-    let v = rw c.as-slice-x-items.ensures at e in
+    let v = rw c.as_slice-x-items.ensures at e in
     record { value = v; first = first_with_key g.T.Keyed.key c.args.key _ _ v }

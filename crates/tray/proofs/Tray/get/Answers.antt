@@ -5,4 +5,4 @@ use Rattle.tray.proofs.Tray.get.Goals as goal
 
 pub returns : goal.returns
 returns g c =
-    rw (← c.as-slice.ensures) (c.copied.ensures ∙ item_nth c.as-slice.result.now c.args.i c.get.result c.get.ensures.finds)
+    rw (← c.as_slice.ensures) (c.copied.ensures ∙ item_nth c.as_slice.result.now c.args.i c.get.result c.get.ensures.lookup)

@@ -33,10 +33,10 @@ returns-in-Ok c =
     let s = c.args.self.now in
     let text = s.text.now in
     let start = c.skip-start.result in
-    let end = c.token-end-end.result in
+    let end = c.token_end-end.result in
     let w = c.in-Ok.word in
     let e : next_in (left s) ≡ word w (drop end text) =
-    next_token (left s) text start end c.skip-start.ensures (omega arith) c.token-end-end.ensures
+    next_token (left s) text start end c.skip-start.ensures (omega arith) c.token_end-end.ensures
     ∙ ap (λ r. step_by r (drop start text) (drop end text)) (sym c.in-Ok.ensures) in
     let found : Word w ≡ item_of text (next_in (left s)) = sym (ap (item_of text) e) in
     record {
@@ -51,10 +51,10 @@ returns-in-Err c =
     let s = c.args.self.now in
     let text = s.text.now in
     let start = c.skip-start.result in
-    let end = c.token-end-end.result in
+    let end = c.token_end-end.result in
     let why = c.in-Err.reason in
     let e : next_in (left s) ≡ stuck why (drop start text) =
-    next_token (left s) text start end c.skip-start.ensures (omega arith) c.token-end-end.ensures
+    next_token (left s) text start end c.skip-start.ensures (omega arith) c.token_end-end.ensures
     ∙ ap (λ r. step_by r (drop start text) (drop end text)) (sym c.in-Err.ensures) in
     let place = c.of.ensures ∙ ap (position_of text) (sym (place_of text start (omega arith))) in
     record {

@@ -15,6 +15,6 @@ returns c =
     let p = c.args.self.now in
     let fits : length c.args.part.now ≤ (memory_view p.memory.now p.len p.memory.ghost_name).room = omega (arith, c.if-n-room.false, c.room.ensures) in
     record {
-      puts = puts_taken fits (memory-put _ _ _ _ _ _ _ c.len-at.ensures fits c.copy-from-slice.ensures.after (omega arith));
+      puts = puts_taken fits (memory-put _ _ _ _ _ _ _ c.len-at.ensures fits c.copy_from_slice.ensures.after (omega arith));
       stays = stays_if_taken;
     }
