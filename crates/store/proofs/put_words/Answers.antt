@@ -15,12 +15,12 @@ loop-word-init g c = took_none _
 room_for_one : (ws : List ℕ) (i room left : ℕ) → i < length ws → length ws ≤ room / 4 → left ≡ room - length (flat (take i ws)) → 4 ≤ left
 room_for_one ws i room left some fits is = omega (arith, length_flat (take i ws), length-take i ws)
 
-pub returns-in-err-put : goal.returns-in-err-put
-returns-in-err-put g c =
+pub returns-in_err-put : goal.returns-in_err-put
+returns-in_err-put g c =
     let ws = c.args.words.now in
     let left = room_after c.loop-word.invariant in
     let one = room_for_one ws c.loop-word.word-index _ _ c.loop-word-test.true (omega (arith, c.room.ensures)) left in
-    absurd (fits_not_refused (omega (arith, ap length c.to-be-bytes.ensures)) c.put.ensures.puts c.in-err-put.was)
+    absurd (fits_not_refused (omega (arith, ap length c.to_be_bytes.ensures)) c.put.ensures.puts c.in_err-put.was)
 
 pub loop-word-preserved : goal.loop-word-preserved
 loop-word-preserved g c =
@@ -28,8 +28,8 @@ loop-word-preserved g c =
     let i = c.loop-word.word-index in
     let left = room_after c.loop-word.invariant in
     let one = room_for_one ws i _ _ c.loop-word-test.true (omega (arith, c.room.ensures)) left in
-    let more = took_more c.loop-word.invariant (took c.put.ensures.puts (omega (arith, ap length c.to-be-bytes.ensures))) in
-    rw (flat_more ws i c.loop-word-test.true) at (rw c.to-be-bytes.ensures at more)
+    let more = took_more c.loop-word.invariant (took c.put.ensures.puts (omega (arith, ap length c.to_be_bytes.ensures))) in
+    rw (flat_more ws i c.loop-word-test.true) at (rw c.to_be_bytes.ensures at more)
 
 pub returns : goal.returns
 returns g c =

@@ -5,11 +5,11 @@ use Rattle.store.proofs.store_flash.Goals as goal
 
 pub returns : goal.returns
 returns c =
-    let w = landed _ _ _ _ _ c.new-flash.ensures c.store-piled.ensures.puts c.store-piled.ensures.lands in
+    let w = landed _ _ _ _ _ c.new-flash.ensures c.store_piled.ensures.puts c.store_piled.ensures.lands in
     let place = ap (λ xs. get_or xs 0 0) w.place in
     let holds = w.holds in
     record {
       answers = w.answers;
-      told = fresh_told c.store-piled.result _ c.new-flash.ensures c.store-piled.ensures.puts c.store-piled.ensures.told;
+      told = fresh_told c.store_piled.result _ c.new-flash.ensures c.store_piled.ensures.puts c.store_piled.ensures.told;
       lands = search rules;
     }

@@ -13,19 +13,19 @@ returns g c =
     let layer = c.settle.new.self in
     let below = layer.below.now in
     let v = lent layer.below.name (g.S.Sink.view below) in
-    let all = layered layer.buffer layer.count c.new-layer.ensures.same c.store-answer.ensures.puts c.settle.ensures.same (omega (arith, c.settle.ensures.none-held)) in
+    let all = layered layer.buffer layer.count c.new-layer.ensures.same c.store-answer.ensures.puts c.settle.ensures.same (omega (arith, c.settle.ensures.none_held)) in
     let lender = all.lender in
     let puts = all.puts in
-    let none : g.S.Sink.held below ≡ 0 = omega (arith, c.settle.ensures.none-held) in
+    let none : g.S.Sink.held below ≡ 0 = omega (arith, c.settle.ensures.none_held) in
     let lands = settled_memory (g.S.Sink.lawful below) none in
-    let bytes : c.len.result ≡ length (g.S.Sink.view below).bytes = omega (arith, c.len.ensures, gathered_length v layer.buffer layer.count, c.settle.ensures.none-held) in
-    let room : c.room.result ≡ (g.S.Sink.view below).room = omega (arith, c.room.ensures, gathered_room v layer.buffer layer.count, c.settle.ensures.none-held) in
+    let bytes : c.len.result ≡ length (g.S.Sink.view below).bytes = omega (arith, c.len.ensures, gathered_length v layer.buffer layer.count, c.settle.ensures.none_held) in
+    let room : c.room.result ≡ (g.S.Sink.view below).room = omega (arith, c.room.ensures, gathered_room v layer.buffer layer.count, c.settle.ensures.none_held) in
     let few = (gathered_lawful (lent before.below.ghost_name (g.S.Sink.view before.below.now)) before.buffer before.count (lent_lawful before.below.ghost_name (g.S.Sink.lawful before.below.now))).few_held in
     let same = ap (λ (w : View). length w.bytes) c.settle.ensures.same in
     let waited : c.held-waited.result ≤ length (g.S.Sink.view below).bytes = omega (arith, c.held-waited.ensures, c.len.ensures) in
     record {
       puts = search rules;
-      none-held = search rules;
+      none_held = search rules;
       lands = search rules;
-      told = record { bytes = search rules; room = search rules; waits = omega (arith, c.held.ensures, c.settle.ensures.none-held); waited = search rules };
+      told = record { bytes = search rules; room = search rules; waits = omega (arith, c.held.ensures, c.settle.ensures.none_held); waited = search rules };
     }

@@ -7,22 +7,22 @@ use Rattle.store.proofs.store_piled.Goals as goal
 
 pub returns : goal.returns
 returns g c =
-    let layer = c.store-gathered.new.sink in
+    let layer = c.store_gathered.new.sink in
     let below = layer.below.now in
     let v = lent layer.below.name (g.S.Sink.view below) in
-    let all = layered layer.buffer layer.count c.new-lower.ensures.same c.store-gathered.ensures.puts refl (omega (arith, c.store-gathered.ensures.none-held)) in
+    let all = layered layer.buffer layer.count c.new-lower.ensures.same c.store_gathered.ensures.puts refl (omega (arith, c.store_gathered.ensures.none_held)) in
     let lender = all.lender in
     let puts = all.puts in
-    let none : g.S.Sink.held below ≡ 0 = omega (arith, c.store-gathered.ensures.none-held) in
+    let none : g.S.Sink.held below ≡ 0 = omega (arith, c.store_gathered.ensures.none_held) in
     let lands = settled_memory (g.S.Sink.lawful below) none in
     let long = gathered_length v layer.buffer layer.count in
-    let told = c.store-gathered.ensures.told in
-    let bytes : c.store-gathered.result.bytes ≡ length (g.S.Sink.view below).bytes = omega (arith, c.store-gathered.ensures.none-held) in
-    let room : c.store-gathered.result.room ≡ (g.S.Sink.view below).room = omega (arith, gathered_room v layer.buffer layer.count, c.store-gathered.ensures.none-held) in
-    let waited : c.store-gathered.result.waited ≤ length (g.S.Sink.view below).bytes = omega (arith, c.store-gathered.ensures.none-held) in
+    let told = c.store_gathered.ensures.told in
+    let bytes : c.store_gathered.result.bytes ≡ length (g.S.Sink.view below).bytes = omega (arith, c.store_gathered.ensures.none_held) in
+    let room : c.store_gathered.result.room ≡ (g.S.Sink.view below).room = omega (arith, gathered_room v layer.buffer layer.count, c.store_gathered.ensures.none_held) in
+    let waited : c.store_gathered.result.waited ≤ length (g.S.Sink.view below).bytes = omega (arith, c.store_gathered.ensures.none_held) in
     record {
       puts = search rules;
-      none-held = search rules;
+      none_held = search rules;
       lands = search rules;
       told = record { bytes = search rules; room = search rules; waits = told.waits; waited = search rules };
     }

@@ -7,11 +7,11 @@ use Rattle.tray.specs.Trays.{lent, records, beyond, answer}
 use Rattle.tray.proofs.Fronts.{below-from-ok, full-from-err, whole-put}
 use Rattle.tray.proofs.append.Goals as goal
 
-pub returns-in-err-push : goal.returns-in-err-push
-returns-in-err-push g c =
+pub returns-in_err-push : goal.returns-in_err-push
+returns-in_err-push g c =
     let m = c.args.memory.now in
     let begun = c.resume-tray.ensures in
-    let put = c.in-err-push.ensures in
+    let put = c.in_err-push.ensures in
     let place = sym (put.loan ∙ begun.loan) in
     let full = full-from-err c.args.count m (put.answers ∙ ap (λ xs. answer (length xs)) begun.rest) in
     let same : lent c.push.new.self ≡ m = ap lent (put.refused refl) ∙ begun.same in

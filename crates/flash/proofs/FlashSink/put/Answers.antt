@@ -7,8 +7,8 @@ use Rattle.flash.specs.Words.{flat}
 use Rattle.flash.proofs.Packs.{length_flat}
 use Rattle.flash.proofs.FlashSink.put.Goals as goal
 
-pub set-bytes-requires : goal.set-bytes-requires
-set-bytes-requires c =
+pub set_bytes-requires : goal.set_bytes-requires
+set_bytes-requires c =
     let ws = c.args.self.now.words.now in
     omega (arith, length_flat ws, length-take (count_in (flat ws) c.args.self.now.len) (flat ws))
 
@@ -23,5 +23,5 @@ returns c =
     let at = c.len-at.result in
     let fits : length part ≤ (memory_view d p.len p.words.ghost_name).room = omega (arith, c.if-n-room.false, c.room.ensures) in
     let put = memory-put d part part p.len at (length part) p.words.ghost_name c.len-at.ensures fits refl refl in
-    let is = c.set-bytes.ensures ∙ sym (put_mid-paste at (length part) d part part (length part) refl refl refl) in
+    let is = c.set_bytes.ensures ∙ sym (put_mid-paste at (length part) d part part (length part) refl refl refl) in
     record { puts = puts_taken fits (rw is put); stays = stays_if_taken }

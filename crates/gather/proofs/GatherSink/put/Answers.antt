@@ -13,9 +13,9 @@ hold-requires g c =
 
 pub hold-requires-then-n-spare-2 : goal.hold-requires-then-n-spare-2
 hold-requires-then-n-spare-2 g c =
-    let s = c.pass-down.new.self in
-    let none : waiting (g.S.Sink.view s.below) s.buffer s.count ≡ 0 = c.pass-down.ensures.none in
-    let all = below_all _ _ _ _ none c.pass-down.ensures.same in
+    let s = c.pass_down.new.self in
+    let none : waiting (g.S.Sink.view s.below) s.buffer s.count ≡ 0 = c.pass_down.ensures.none in
+    let all = below_all _ _ _ _ none c.pass_down.ensures.same in
     let left = ap (λ (v : View). v.room) all in
     record { fits = omega arith; room = omega arith }
 
@@ -38,7 +38,7 @@ returns-then-n-spare g c =
 pub returns-then-n-spare-2 : goal.returns-then-n-spare-2
 returns-then-n-spare-2 g c =
     let full : length c.args.self.now.buffer ≡ 64 = search rules in
-    let same = ap (λ v. grown v c.args.part.now) c.pass-down.ensures.same in
+    let same = ap (λ v. grown v c.args.part.now) c.pass_down.ensures.same in
     record {
       puts = puts_taken (omega (arith, c.room.ensures)) (c.hold-then-n-spare-2.ensures.after ∙ same);
       stays = stays_if_taken;
@@ -48,9 +48,9 @@ returns-then-n-spare-2 g c =
 pub returns : goal.returns
 returns g c =
     let full : length c.args.self.now.buffer ≡ 64 = search rules in
-    let s = c.pass-down.new.self in
-    let none : waiting (g.S.Sink.view s.below) s.buffer s.count ≡ 0 = c.pass-down.ensures.none in
-    let all = below_all _ _ _ _ none c.pass-down.ensures.same in
+    let s = c.pass_down.new.self in
+    let none : waiting (g.S.Sink.view s.below) s.buffer s.count ≡ 0 = c.pass_down.ensures.none in
+    let all = below_all _ _ _ _ none c.pass_down.ensures.same in
     let left = ap (λ (v : View). v.room) all in
     let fits : length c.args.part.now ≤ (g.S.Sink.view s.below).room = omega (arith, c.room.ensures) in
     record {

@@ -8,10 +8,10 @@ use Rattle.machine.proofs.drawing.glyph_at.Goals as goal
 
 pub returns : goal.returns
 returns c =
-    let fx : SFits w64 c.glyph-x.result = search rules in
-    let fy : SFits w64 c.glyph-y.result = search rules in
-    let right : to_z w64 (of_z w64 c.glyph-x.result) ≡ (glyph_at c.args.numbers c.args.code).x = to_z-of_z w64 c.glyph-x.result fx ∙ c.glyph-x.ensures in
-    let above : to_z w64 (of_z w64 c.glyph-y.result) ≡ (glyph_at c.args.numbers c.args.code).y = to_z-of_z w64 c.glyph-y.result fy ∙ c.glyph-y.ensures in
+    let fx : SFits w64 c.glyph_x.result = search rules in
+    let fy : SFits w64 c.glyph_y.result = search rules in
+    let right : to_z w64 (of_z w64 c.glyph_x.result) ≡ (glyph_at c.args.numbers c.args.code).x = to_z-of_z w64 c.glyph_x.result fx ∙ c.glyph_x.ensures in
+    let above : to_z w64 (of_z w64 c.glyph_y.result) ≡ (glyph_at c.args.numbers c.args.code).y = to_z-of_z w64 c.glyph_y.result fy ∙ c.glyph_y.ensures in
     let law = glyph_stands c.args.numbers c.args.code in
     record {
       value = λ i. record { letter = Glyph; x = right i; y = above i; turn = c.args.numbers.axes.turn; size = c.args.numbers.line.size; code = c.args.code };

@@ -7,5 +7,5 @@ use Rattle.machine.proofs.places.offset_stays.Goals as goal
 
 pub returns : goal.returns
 returns c =
-    let called : c.shifted-offset.result ≡ provided (axes_inside (shifted c.args.axes c.args.a c.args.b)) ((shifted c.args.axes c.args.a c.args.b).x, (shifted c.args.axes c.args.a c.args.b).y) = search rules in
-    c.is-some.ensures ∙ ap is_some called ∙ told (axes_inside (shifted c.args.axes c.args.a c.args.b)) ((shifted c.args.axes c.args.a c.args.b).x, (shifted c.args.axes c.args.a c.args.b).y)
+    let called : c.shifted_offset.result ≡ provided (axes_inside (shifted c.args.axes c.args.a c.args.b)) ((shifted c.args.axes c.args.a c.args.b).x, (shifted c.args.axes c.args.a c.args.b).y) = search rules in
+    c.is_some.ensures ∙ ap is_some called ∙ told (axes_inside (shifted c.args.axes c.args.a c.args.b)) ((shifted c.args.axes c.args.a c.args.b).x, (shifted c.args.axes c.args.a c.args.b).y)

@@ -7,5 +7,5 @@ use Rattle.machine.proofs.places.start_stays.Goals as goal
 
 pub returns : goal.returns
 returns c =
-    let called : c.moved-start.result ≡ provided (line_inside (placed c.args.line c.args.a c.args.b)) ((placed c.args.line c.args.a c.args.b).x, (placed c.args.line c.args.a c.args.b).y) = search rules in
-    c.is-some.ensures ∙ ap is_some called ∙ told (line_inside (placed c.args.line c.args.a c.args.b)) ((placed c.args.line c.args.a c.args.b).x, (placed c.args.line c.args.a c.args.b).y)
+    let called : c.moved_start.result ≡ provided (line_inside (placed c.args.line c.args.a c.args.b)) ((placed c.args.line c.args.a c.args.b).x, (placed c.args.line c.args.a c.args.b).y) = search rules in
+    c.is_some.ensures ∙ ap is_some called ∙ told (line_inside (placed c.args.line c.args.a c.args.b)) ((placed c.args.line c.args.a c.args.b).x, (placed c.args.line c.args.a c.args.b).y)

@@ -5,7 +5,7 @@ use Rattle.machine.proofs.Opens.{counted_at, saves_none, saves_reverse}
 use Rattle.machine.proofs.stack.saves_open.Goals as goal
 
 pub loop-x-preserved : goal.loop-x-preserved
-loop-x-preserved c = counted_at c.args.stack.now c.loop-x.x-index _ c.loop-x.saves c.save-count-saves.result c.loop-x-test.true c.loop-x.invariant c.save-count-saves.ensures
+loop-x-preserved c = counted_at c.args.stack.now c.loop-x.x-index _ c.loop-x.saves c.save_count-saves.result c.loop-x-test.true c.loop-x.invariant c.save_count-saves.ensures
 
 pub returns : goal.returns
 returns c =

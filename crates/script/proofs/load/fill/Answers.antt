@@ -6,12 +6,12 @@ use Rattle.script.specs.Answers.{left, overlaid}
 use Rattle.script.proofs.Taken.{word_first, no_word_left, overlaid_more, overlaid_full}
 use Rattle.script.proofs.load.fill.Goals as goal
 
-pub returns-in-default : goal.returns-in-default
-returns-in-default c =
+pub returns-in_default : goal.returns-in_default
+returns-in_default c =
     let was = c.loop-slot.reader in
     let ms = c.loop-slot.words in
     let i = c.loop-slot.slot-index in
-    let none = no_word_left was.text.now (left was) c.next.result c.next.ensures.item c.in-default.not-Word in
+    let none = no_word_left was.text.now (left was) c.next.result c.next.ensures.item c.in_default.not-Word in
     set-get_or ms i 0 ∙ sym (take-append-drop i ms)
     ∙ ap (λ ws. take i ms ++ overlaid ws (drop i ms)) (sym none) ∙ c.loop-slot.invariant
 

@@ -6,8 +6,8 @@ use Rattle.script.proofs.Turns.{skip_more, skip_in_comment, skip_into_comment, s
 use Rattle.script.proofs.scan.skip.Goals as goal
 use Rattle.script.proofs.scan.skip.Goals.{then-comment, else-comment+then-byte-eq35, else-comment+else-byte-eq35+else-not-is_white}
 
-pub returns-then-not-is-white : goal.returns-then-not-is-white
-returns-then-not-is-white c =
+pub returns-then-not-is_white : goal.returns-then-not-is_white
+returns-then-not-is_white c =
     let text = c.args.text.now in
     let i = c.loop-i.i in
     let w : white (get_or text i 0) ≡ false = cc in
@@ -26,7 +26,7 @@ loop-i-preserved c =
       | then-comment w ↦ skip_in_comment x after _ next w.if-comment.true (w.comment-is ∙ ap not w.ends_comment-comment.ensures)
       | else-comment+then-byte-eq35 w ↦ skip_into_comment x after _ next w.if-comment.false w.if-byte-eq35.true w.comment-is
       | else-comment+else-byte-eq35+else-not-is_white w ↦ (
-          let t : white x ≡ true = sym w.is_white.ensures ∙ w.if-not-is-white.false in
+          let t : white x ≡ true = sym w.is_white.ensures ∙ w.if-not-is_white.false in
           skip_over_white x after _ next w.if-comment.false t w.comment-is)
     ]
     in

@@ -12,8 +12,8 @@ loop-end-preserved c =
     let e = prefix_len-drop_yes in_token text i 0 (omega arith) t in
     omega (arith, c.loop-end.invariant)
 
-pub returns-else-is-in-token : goal.returns-else-is-in-token
-returns-else-is-in-token c =
+pub returns-else-is_in_token : goal.returns-else-is_in_token
+returns-else-is_in_token c =
     let text = c.args.text.now in
     let i = c.loop-end.end in
     let f : in_token (get_or text i 0) ≡ false = cc in

@@ -5,21 +5,21 @@ use Rattle.script.specs.Tokens.{value_after}
 use Rattle.script.proofs.Valued.{value_some, digit_below, room_for_digit, bound_more, no_digit, no_room, value_more}
 use Rattle.script.proofs.token.value_of.Goals as goal
 
-pub returns-in-default : goal.returns-in-default
-returns-in-default c =
-    no_digit c.args.digits.now c.loop-i.i (8 - c.loop-i.i) c.loop-i.value (omega arith) c.in-default.ensures
+pub returns-in_default : goal.returns-in_default
+returns-in_default c =
+    no_digit c.args.digits.now c.loop-i.i (8 - c.loop-i.i) c.loop-i.value (omega arith) c.in_default.ensures
     ∙ c.loop-i.invariant.2 ∙ sym (value_some c.args.digits.now (omega arith))
 
-pub returns-then-i-ge-MOST-DIGITS : goal.returns-then-i-ge-MOST-DIGITS
-returns-then-i-ge-MOST-DIGITS c =
+pub returns-then-i-ge-MOST_DIGITS : goal.returns-then-i-ge-MOST_DIGITS
+returns-then-i-ge-MOST_DIGITS c =
     no_room c.args.digits.now c.loop-i.i c.loop-i.value c.in-Some.digit (omega arith) (omega arith) c.in-Some.ensures
     ∙ c.loop-i.invariant.2 ∙ sym (value_some c.args.digits.now (omega arith))
 
-pub overflow-mul-value : goal.overflow-mul-value
-overflow-mul-value c = omega (arith, room_for_digit c.loop-i.value c.loop-i.i c.loop-i.invariant.1 (omega arith))
+pub overflow_mul-value : goal.overflow_mul-value
+overflow_mul-value c = omega (arith, room_for_digit c.loop-i.value c.loop-i.i c.loop-i.invariant.1 (omega arith))
 
-pub overflow-add-value : goal.overflow-add-value
-overflow-add-value c =
+pub overflow_add-value : goal.overflow_add-value
+overflow_add-value c =
     let d = digit_below (get_or c.args.digits.now c.loop-i.i 0) c.in-Some.digit c.in-Some.ensures in
     omega (arith, room_for_digit c.loop-i.value c.loop-i.i c.loop-i.invariant.1 (omega arith))
 

@@ -9,7 +9,7 @@ use Rattle.machine.proofs.machine.Machine.place.Goals as goal
 pub returns-in-Some : goal.returns-in-Some
 returns-in-Some c =
     let n = c.args.self.now.numbers in
-    let called : c.moved-start.result ≡ provided (line_inside (placed n.line c.args.a c.args.b)) ((placed n.line c.args.a c.args.b).x, (placed n.line c.args.a c.args.b).y) = search rules in
+    let called : c.moved_start.result ≡ provided (line_inside (placed n.line c.args.a c.args.b)) ((placed n.line c.args.a c.args.b).x, (placed n.line c.args.a c.args.b).y) = search rules in
     let told = given (line_inside (placed n.line c.args.a c.args.b)) ((placed n.line c.args.a c.args.b).x, (placed n.line c.args.a c.args.b).y) (c.in-Some.x, c.in-Some.y) (sym called ∙ c.in-Some.is) in
     let fx : SFits w32 c.in-Some.x = search rules in
     let fy : SFits w32 c.in-Some.y = search rules in
@@ -20,5 +20,5 @@ returns-in-Some c =
 pub returns-in-None : goal.returns-in-None
 returns-in-None c =
     let n = c.args.self.now.numbers in
-    let called : c.moved-start.result ≡ provided (line_inside (placed n.line c.args.a c.args.b)) ((placed n.line c.args.a c.args.b).x, (placed n.line c.args.a c.args.b).y) = search rules in
+    let called : c.moved_start.result ≡ provided (line_inside (placed n.line c.args.a c.args.b)) ((placed n.line c.args.a c.args.b).x, (placed n.line c.args.a c.args.b).y) = search rules in
     record { answer = sym (refused (line_inside (placed n.line c.args.a c.args.b)) ((placed n.line c.args.a c.args.b).x, (placed n.line c.args.a c.args.b).y) (sym called ∙ c.in-None.is)); after = search rules }

@@ -12,7 +12,7 @@ use Rattle.machine.proofs.machine.Machine.shift.Goals as goal
 pub returns-in-Some : goal.returns-in-Some
 returns-in-Some c =
     let n = c.args.self.now.numbers in
-    let called : c.shifted-offset.result ≡ provided (axes_inside (shifted n.axes c.args.a c.args.b)) ((shifted n.axes c.args.a c.args.b).x, (shifted n.axes c.args.a c.args.b).y) = search rules in
+    let called : c.shifted_offset.result ≡ provided (axes_inside (shifted n.axes c.args.a c.args.b)) ((shifted n.axes c.args.a c.args.b).x, (shifted n.axes c.args.a c.args.b).y) = search rules in
     let told = given (axes_inside (shifted n.axes c.args.a c.args.b)) ((shifted n.axes c.args.a c.args.b).x, (shifted n.axes c.args.a c.args.b).y) (c.in-Some.x, c.in-Some.y) (sym called ∙ c.in-Some.is) in
     let fx : SFits w32 c.in-Some.x = search rules in
     let fy : SFits w32 c.in-Some.y = search rules in
@@ -28,5 +28,5 @@ returns-in-Some c =
 pub returns-in-None : goal.returns-in-None
 returns-in-None c =
     let n = c.args.self.now.numbers in
-    let called : c.shifted-offset.result ≡ provided (axes_inside (shifted n.axes c.args.a c.args.b)) ((shifted n.axes c.args.a c.args.b).x, (shifted n.axes c.args.a c.args.b).y) = search rules in
+    let called : c.shifted_offset.result ≡ provided (axes_inside (shifted n.axes c.args.a c.args.b)) ((shifted n.axes c.args.a c.args.b).x, (shifted n.axes c.args.a c.args.b).y) = search rules in
     record { answer = sym (refused (axes_inside (shifted n.axes c.args.a c.args.b)) ((shifted n.axes c.args.a c.args.b).x, (shifted n.axes c.args.a c.args.b).y) (sym called ∙ c.in-None.is)); after = search rules; matrix = λ e. let z : ◌≡◌ {A = ℕ} 0 1 = cc e in absurd (omega arith) }

@@ -23,8 +23,8 @@ returns-then-start-self c =
       shorter = λ w h. impossible (cc);
     }
 
-pub slice-bounds-word-in-end : goal.slice-bounds-word-in-end
-slice-bounds-word-in-end c =
+pub slice_bounds-word_in-end : goal.slice_bounds-word_in-end
+slice_bounds-word_in-end c =
     let t = token_ends c.args.self.now.text.now c.skip-start.result (omega arith) in
     omega arith
 
