@@ -9,7 +9,7 @@ pub returns : goal.returns
 returns g c =
     let layer = c.store_gathered.new.sink in
     let below = layer.below.now in
-    let v = lent layer.below.name (g.S.Sink.view below) in
+    let v = lent layer.below.ghost_name (g.S.Sink.view below) in
     let all = layered layer.buffer layer.count c.new-lower.ensures.same c.store_gathered.ensures.puts refl (omega (arith, c.store_gathered.ensures.none_held)) in
     let lender = all.lender in
     let puts = all.puts in

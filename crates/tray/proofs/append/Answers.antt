@@ -15,7 +15,7 @@ returns-in_err-push g c =
     let place = sym (put.loan ∙ begun.loan) in
     let full = full-from-err c.args.count m (put.answers ∙ ap (λ xs. answer (length xs)) begun.rest) in
     let same : lent c.push.new.self ≡ m = ap lent (put.refused refl) ∙ begun.same in
-    let p = err_from_is_err_and c.from-residual.result c.from-residual.ensures.1 in
+    let p = err_from_is_err_and c.from_residual.result c.from_residual.ensures.1 in
     rw (p.1, p.2) record { answers = cond_above _ _ _ _ _ full.0 (ap Err full.1); after = search rules }
 
 pub returns : goal.returns

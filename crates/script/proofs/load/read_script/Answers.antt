@@ -14,8 +14,8 @@ returns-in-Err c = record {
   laws = reading_is_lawful;
 }
 
-pub returns-then-count_words : goal.returns-then-count_words
-returns-then-count_words c =
+pub returns-then-count-words : goal.returns-then-count-words
+returns-then-count-words c =
     let room = length c.args.words.now in
     record {
       answer = sym (cond-false _ _ _ (lt-leb c.in-Ok.count room (omega arith))) ∙ ap (within room) c.in-Ok.ensures;
