@@ -1,9 +1,9 @@
 -- The gathering layer after each step.
-use Rattle.std.proofs.Common.{◌≡◌, ℕ, ◌+◌, ◌-◌, ◌<◌, ◌≤◌, min, true, false, List, [], ◌++◌, length, take, Err, Result, sym, refl, ap, ◌∙◌, arith, length-append, length-drop, length-take}
+use Rattle.std.proofs.Common.{◌≡◌, ℕ, ◌+◌, ◌-◌, ◌<◌, ◌≤◌, min, true, false, List, ◌++◌, length, take, Err, Result, sym, ap, ◌∙◌, arith, length-append, length-drop, length-take}
 use Rattle.sink.specs.declared.refusal.Refusal.{Refusal}
 use borrow.Rule.Slice.PartMut.{put_mid}
 use Rattle.std.proofs.lemmas.Slice.{take-put_mid}
-use Rattle.sink.specs.Meaning.{View, grown, Puts, Took}
+use Rattle.sink.specs.Meaning.{View, grown, Puts}
 use Rattle.sink.proofs.Grown.{grown_grown, grown_none, took, room_after}
 use Rattle.gather.specs.Gathers.{most_waiting, waiting, gathered, WaitsIfShort}
 

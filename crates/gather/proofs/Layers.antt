@@ -1,5 +1,5 @@
 -- A layer over a sink that was lent, from its start to its end.
-use Rattle.std.proofs.Common.{◌≡◌, ℕ, List, Result, sym, ◌∙◌}
+use Rattle.std.proofs.Common.{◌≡◌, ℕ, List, Result}
 use Rattle.sink.specs.declared.refusal.Refusal.{Refusal}
 use Rattle.sink.specs.Meaning.{View, Puts, lent}
 use Rattle.sink.proofs.Grown.{same_lender, puts_unlent}

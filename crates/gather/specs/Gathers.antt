@@ -1,6 +1,6 @@
 -- The meaning of a gathering layer: a sink below, and some last bytes that wait in a buffer.
 use Rattle.std.proofs.Common.{arith, sym, ap, ◌∙◌, length-take, length-append}
-use Rattle.std.specs.Prelude.{◌≡◌, ℕ, ◌+◌, ◌-◌, ◌≤◌, min, true, List, ◌++◌, length, take, drop, is_ok, Result, refl}
+use Rattle.std.specs.Prelude.{◌≡◌, ℕ, ◌+◌, ◌-◌, ◌≤◌, min, true, List, ◌++◌, length, take, drop, is_ok, Result}
 use Rattle.std.proofs.lemmas.List.{drop-drop, take-append-le}
 use Rattle.sink.specs.declared.refusal.Refusal.{Refusal}
 use Rattle.sink.specs.Meaning.{View, Lawful, grown}

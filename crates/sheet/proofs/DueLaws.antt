@@ -1,13 +1,13 @@
 -- A run draws what its words are due to draw; every word is obeyed or refused.
-use Rattle.std.proofs.Common.{◌≡◌, ℕ, ◌+◌, Bool, true, false, cond, List, [], ◌∷◌, ◌++◌, length, take, is_some, Some, None, Ok, Err, Option, Result, sym, refl, ap, ◌∙◌, arith, length-append}
+use Rattle.std.proofs.Common.{◌≡◌, ℕ, ◌+◌, Bool, cond, List, [], ◌∷◌, length, take, is_some, Some, None, Ok, Err, Option, Result, sym, refl, ap, ◌∙◌, arith, length-append}
 use Rattle.page.specs.declared.types.Refusal.{Refusal}
 use Rattle.page.specs.declared.types.Word.{Word}
 use Rattle.page.specs.Decoded.{decoded}
 use Rattle.sheet.specs.declared.refusals.WordRefusal.{WordRefusal}
-use Rattle.sheet.specs.Due.{Drawing, drawing, due_reading, obeyed_bits, ended, reading_of}
+use Rattle.sheet.specs.Due.{drawing, due_reading, obeyed_bits, ended, reading_of}
 use Rattle.sheet.specs.Sheet.{sheet_after}
 use Rattle.sheet.specs.Run.{Run, no_run, judged, gone_by, word_done, words_done, run}
-use Rattle.sheet.specs.Laws.{RefusedWordsDrawNothing, RefusedWordsLeaveTheSheet, refused_from, refused_words, count_set, RunsDrawWhatIsDue, WordsAreObeyedOrRefused, EveryWordIsObeyedOrRefused}
+use Rattle.sheet.specs.Laws.{RefusedWordsDrawNothing, RefusedWordsLeaveTheSheet, refused_from, count_set, RunsDrawWhatIsDue, EveryWordIsObeyedOrRefused}
 
 pub refused_draw_nothing : RefusedWordsDrawNothing
 unfolding drawing

@@ -1,6 +1,5 @@
 -- How the instructions of a page are written: operands, the operator, LF.
 use Rattle.std.specs.Prelude.{ℕ, List, [], ◌∷◌, ◌++◌, ℤ, pos, neg_ℤ, codes}
-use Rattle.page.specs.declared.types.Codes.{Codes}
 use Rattle.page.specs.Numbers.{name_of, letter_of}
 use Rattle.machine.specs.Axes.{rotated_x, rotated_y}
 use Rattle.machine.specs.State.{codes_in}

@@ -1,12 +1,12 @@
 -- How the instructions of contents are read: operands up to an operator, and what they mean together.
-use Rattle.std.specs.Prelude.{ℕ, zero, suc, ◌-◌, Bool, true, false, ◌&&◌, List, [], ◌∷◌, ◌++◌, length, ℤ, pos, negsuc, Some, None, codes, Option, ◌==◌, slice_index_or}
+use Rattle.std.specs.Prelude.{ℕ, zero, suc, Bool, true, false, ◌&&◌, List, [], ◌∷◌, length, ℤ, pos, negsuc, Some, None, codes, Option, ◌==◌, slice_index_or}
 use Rattle.std.specs.Str.{bytes_eq}
 use Rattle.page.specs.declared.types.Codes.{Codes}
 use Rattle.page.specs.declared.types.Codes.TheVariants.{One, Two, Three}
 use Rattle.page.specs.declared.types.PaintOperator.TheVariants.{Stroke, CloseAndStroke, Fill, End}
 use Rattle.page.specs.Fields.{is_signed, is_size, is_code}
 use Rattle.pdf.specs.Lookups.{not_negative}
-use Rattle.pdf.specs.Tokens.{Token, int, name, word, text, array_open, array_close, dict_open, dict_close, token, skip}
+use Rattle.pdf.specs.Tokens.{Token, int, name, word, text, array_open, array_close, dict_open, dict_close, token}
 use Rattle.sheet.specs.declared.instructions.Instruction.{Instruction}
 use Rattle.sheet.specs.declared.instructions.Instruction.TheVariants.{Save, Restore, Origin, Turn, BeginText, Font, EndText, Mark, Artifact, EndMark, Move, Line, Paint, Place, Show}
 use Rattle.sheet.specs.Contents.{turn_matrix}

@@ -1,9 +1,9 @@
 -- Laws of runs and of the due reading.
-use Rattle.std.specs.Prelude.{◌≡◌, ℕ, ◌+◌, ◌≤◌, Bool, true, false, List, [], ◌∷◌, length, take, is_some, Some, Option}
+use Rattle.std.specs.Prelude.{◌≡◌, ℕ, ◌+◌, Bool, true, false, List, [], ◌∷◌, length, take, is_some, Some}
 use Rattle.page.specs.Decoded.{decoded}
 use Rattle.sheet.specs.declared.refusals.WordRefusal.{WordRefusal}
-use Rattle.sheet.specs.Due.{Drawing, no_drawing, drawing, ended, reading_of, due_reading}
-use Rattle.sheet.specs.Run.{Run, no_run, judged, word_done, words_done, run}
+use Rattle.sheet.specs.Due.{Drawing, drawing, ended, reading_of, due_reading}
+use Rattle.sheet.specs.Run.{Run, no_run, judged, word_done, run}
 
 -- A refused word changes nothing of what is drawn: the words around it draw as they do without it.
 abbrev pub RefusedWordsDrawNothing : Type 0

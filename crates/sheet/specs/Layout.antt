@@ -4,7 +4,7 @@ use Rattle.page.specs.Numbers.{name_of}
 use Rattle.machine.specs.declared.types.Open.{Open}
 use Rattle.pdf.specs.Blocks.{Block, whole, offset_of}
 use Rattle.pdf.specs.Numbers.{padded}
-use Rattle.pdf.specs.Values.{Value, number, named, ref, truth, array, dict, Values, none, ◌◂◌, Entries, end, entry}
+use Rattle.pdf.specs.Values.{Value, number, named, ref, truth, array, dict, Values, none, ◌◂◌, end, entry}
 use Rattle.pdf.specs.Written.{render}
 use Rattle.sheet.specs.Contents.{contents_of}
 use Rattle.sheet.specs.Tree.{Kid, element, mark, Element, Tree}

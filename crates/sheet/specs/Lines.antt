@@ -1,5 +1,5 @@
 -- The lines of a file outside its objects: what stands where they are kept byte for byte.
-use Rattle.std.specs.Prelude.{ℕ, Bool, true, false, cond, ◌&&◌, List, [], ◌∷◌, ◌++◌, Some, None, codes, Option, ◌==◌}
+use Rattle.std.specs.Prelude.{ℕ, true, false, List, [], ◌∷◌, Some, None, Option, ◌==◌}
 use Rattle.pdf.specs.Bytes.{digit, front, past}
 use Rattle.pdf.specs.Numbers.{natural}
 

@@ -1,5 +1,5 @@
 -- The objects of a file, each by what its role asks: exactly the keys that are shown for it, each once, in any order.
-use Rattle.std.specs.Prelude.{ℕ, ◌-◌, Bool, true, false, ◌&&◌, List, [], ◌∷◌, ◌++◌, length, drop, ℤ, pos, Some, None, codes, Option, Result, ◌==◌, nat_le, slice_index}
+use Rattle.std.specs.Prelude.{ℕ, ◌-◌, Bool, true, false, ◌&&◌, List, [], ◌∷◌, length, drop, ℤ, Some, None, codes, Option, Result, ◌==◌, nat_le, slice_index}
 use Rattle.std.specs.Str.{bytes_eq}
 use Rattle.page.specs.declared.types.ElementType.{ElementType}
 use Rattle.page.specs.declared.types.ElementType.TheVariants.{Document, Part, Sect, P, H1, H2, L, LI, Figure, Caption}

@@ -1,5 +1,5 @@
 -- A run of words on a sink: when a sheet is begun, which words are refused and why, and what has become of them.
-use Rattle.std.specs.Prelude.{ℕ, ◌+◌, ◌-◌, ◌*◌, Bool, true, false, cond, not, ◌&&◌, List, [], ◌∷◌, ◌++◌, length, take, Some, None, Ok, Err, Option, Result, nat_le, nat_lt}
+use Rattle.std.specs.Prelude.{ℕ, ◌+◌, ◌*◌, Bool, true, false, cond, not, ◌&&◌, List, [], ◌∷◌, ◌++◌, length, take, Some, None, Ok, Err, Option, Result, nat_le, nat_lt}
 use Rattle.page.specs.declared.types.Refusal.{Refusal}
 use Rattle.page.specs.declared.types.Word.{Word}
 use Rattle.page.specs.declared.types.Word.TheVariants as word
@@ -7,14 +7,14 @@ use Rattle.page.specs.Decoded.{decoded}
 use Rattle.machine.specs.declared.types.Open.{Open}
 use Rattle.machine.specs.declared.types.Step.{Step}
 use Rattle.machine.specs.Stack.{taken}
-use Rattle.machine.specs.State.{State, within_limits, inside_range, most_saves_written}
+use Rattle.machine.specs.State.{within_limits, inside_range, most_saves_written}
 use Rattle.machine.specs.Steps.{step_of}
 use Rattle.sheet.specs.declared.refusals.BeginRefusal.{BeginRefusal}
 use Rattle.sheet.specs.declared.refusals.BeginRefusal.TheVariants.{Long, ShortTray, Begun, LittleRoom}
 use Rattle.sheet.specs.declared.refusals.WordRefusal.{WordRefusal}
 use Rattle.sheet.specs.declared.refusals.WordRefusal.TheVariants.{Unread, NotTaken, NoElement, Limit, Outside, NoRoom}
 use Rattle.sheet.specs.declared.refusals.Note.{Note}
-use Rattle.sheet.specs.Layout.{so_far, finished}
+use Rattle.sheet.specs.Layout.{so_far}
 use Rattle.sheet.specs.Refusals.{word_number}
 use Rattle.sheet.specs.Sheet.{Sheet, no_sheet, sheet_after}
 

@@ -1,7 +1,6 @@
 -- The sheet that obeyed words make: what they draw, and the pages that it is written on.
 use Rattle.std.specs.Prelude.{ℕ, zero, suc, List, [], ◌∷◌, ◌++◌, Some, None, Option}
 use Rattle.std.specs.List.{slice_get}
-use Rattle.page.specs.declared.types.ElementType.{ElementType}
 use Rattle.page.specs.declared.types.PaintOperator.TheVariants.{End}
 use Rattle.page.specs.declared.types.Word.{Word}
 use Rattle.page.specs.declared.types.Word.TheVariants as word
@@ -9,7 +8,7 @@ use Rattle.machine.specs.declared.types.Open.{Open}
 use Rattle.machine.specs.declared.types.Open.TheVariants as open'
 use Rattle.sheet.specs.declared.instructions.Instruction.{Instruction}
 use Rattle.sheet.specs.declared.instructions.Instruction.TheVariants.{Save, Restore, Origin, Turn, BeginText, Font, EndText, Mark, Artifact, EndMark, Move, Line, Paint, Place, Show}
-use Rattle.sheet.specs.Tree.{Tree, Element}
+use Rattle.sheet.specs.Tree.{Element}
 use Rattle.sheet.specs.Due.{Drawing, no_drawing, obeyed}
 
 -- A page: its width and height, the instructions of its contents, and the element of each of its marks by identifier.

@@ -1,14 +1,14 @@
 -- Strict files: what a file reads as, or its first fault.
-use Rattle.std.specs.Prelude.{ℕ, ◌+◌, ◌-◌, Bool, true, false, cond, ◌&&◌, List, [], ◌∷◌, length, None, Ok, Result, ◌==◌, nat_lt, slice_index_or}
+use Rattle.std.specs.Prelude.{ℕ, ◌+◌, Bool, true, false, cond, ◌&&◌, List, [], ◌∷◌, length, None, Ok, Result, ◌==◌, nat_lt, slice_index_or}
 use Rattle.page.specs.declared.types.ElementType.{ElementType}
 use Rattle.page.specs.Numbers.{type_number}
 use Rattle.sheet.specs.declared.faults.Fault.{Fault}
 use Rattle.sheet.specs.declared.items.Item.{Item}
 use Rattle.sheet.specs.Due.{no_drawing}
-use Rattle.sheet.specs.Faults.{fault, and_then}
-use Rattle.sheet.specs.Objects.{tree_of, object_in, catalog_in, page_tree_in, root_in, parent_tree_in, below}
+use Rattle.sheet.specs.Faults.{and_then}
+use Rattle.sheet.specs.Objects.{tree_of, object_in, catalog_in, page_tree_in, root_in, parent_tree_in}
 use Rattle.sheet.specs.Table.{Index, index_of}
-use Rattle.sheet.specs.Tree.{Kid, element, mark}
+use Rattle.sheet.specs.Tree.{Kid, element}
 use Rattle.sheet.specs.Walk.{Visit, entered, met, walk, place_of, read_along}
 use Rattle.sheet.specs.Structure.{provided, pages_in, font_of, keys_from, seconds, owners_of, Reached, waiting_kids, elements_of}
 use Rattle.sheet.specs.Running.{pages_run}

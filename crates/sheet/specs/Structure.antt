@@ -3,7 +3,7 @@ use Rattle.std.specs.Prelude.{ℕ, zero, suc, ◌+◌, ◌-◌, Bool, true, fals
 use Rattle.page.specs.declared.types.ElementType.{ElementType}
 use Rattle.machine.specs.State.{most_pages, most_marks}
 use Rattle.sheet.specs.declared.faults.Fault.{Fault}
-use Rattle.sheet.specs.Faults.{fault, or_fault, and_then}
+use Rattle.sheet.specs.Faults.{or_fault, and_then}
 use Rattle.sheet.specs.Lines.{bind}
 use Rattle.sheet.specs.Objects.{syntax_of, tree_of, limit_of, object_in, PageObject, page_in, font_in, owners_in, KidObject, below, content, element_in}
 use Rattle.sheet.specs.Run.{most_elements}

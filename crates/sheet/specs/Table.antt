@@ -1,5 +1,5 @@
 -- The first checks of a file: its header, its tail, its table with the trailer, and the starts of its objects.
-use Rattle.std.specs.Prelude.{ℕ, zero, suc, ◌+◌, ◌-◌, Bool, true, false, cond, ◌&&◌, List, [], ◌∷◌, ◌++◌, reverse, length, take, drop, ℤ, pos, negsuc, Some, None, Ok, Err, codes, Option, Result, ◌==◌, nat_eq, nat_le, nat_lt}
+use Rattle.std.specs.Prelude.{ℕ, zero, suc, ◌+◌, ◌-◌, Bool, true, false, ◌&&◌, List, [], ◌∷◌, reverse, length, take, drop, pos, negsuc, Some, None, Ok, Err, codes, Option, Result, ◌==◌, nat_eq, nat_le, nat_lt}
 use Rattle.pdf.specs.Bytes.{digit, front, past, regular}
 use Rattle.pdf.specs.Numbers.{natural}
 use Rattle.pdf.specs.Tokens.{Token, int, name, word, text, array_open, array_close, dict_open, dict_close, token}

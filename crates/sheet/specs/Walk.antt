@@ -1,6 +1,6 @@
 -- Reading order: down a tree from its root, kids in order. Elements go by any numbers, so that one walk serves scripts,
 -- where they are counted from 1, and files, where they have object numbers.
-use Rattle.std.specs.Prelude.{ℕ, zero, suc, ◌+◌, Bool, cond, ◌&&◌, List, [], ◌∷◌, ◌++◌, map, ◌==◌}
+use Rattle.std.specs.Prelude.{ℕ, zero, suc, ◌+◌, cond, ◌&&◌, List, [], ◌∷◌, ◌++◌, ◌==◌}
 use Rattle.machine.specs.declared.types.Drawn.{Drawn}
 use Rattle.sheet.specs.declared.items.Item.{Item}
 use Rattle.sheet.specs.Tree.{Kid, element, mark}

@@ -1,9 +1,8 @@
 -- Worked sheets: sizes, offsets and places, to be computed by hand and compared.
-use Rattle.std.specs.Prelude.{◌≡◌, ℕ, ◌+◌, List, [], ◌∷◌, length, take, drop, pos, Some, None, codes, Option}
+use Rattle.std.specs.Prelude.{◌≡◌, ℕ, ◌+◌, List, [], ◌∷◌, length, take, drop, pos, Some, None, codes}
 use Rattle.machine.specs.declared.types.Letter.TheVariants.{Glyph}
-use Rattle.pdf.specs.Blocks.{Block, whole, offset_of}
+use Rattle.pdf.specs.Blocks.{whole, offset_of}
 use Rattle.sheet.specs.declared.items.Item.{Item}
-use Rattle.sheet.specs.declared.refusals.BeginRefusal.{BeginRefusal}
 use Rattle.sheet.specs.declared.refusals.BeginRefusal.TheVariants.{LittleRoom}
 use Rattle.sheet.specs.declared.refusals.Note.{Note}
 use Rattle.sheet.specs.Due.{due_reading}

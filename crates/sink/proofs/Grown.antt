@@ -1,11 +1,10 @@
 -- Laws of put: one text after another, refusals, and loans.
-use Rattle.std.proofs.Common.{◌≡◌, ℕ, ◌+◌, ◌-◌, ◌<◌, ◌≤◌, true, false, cond, List, [], ◌∷◌, ◌++◌, length, get_or, take, drop, is_ok, Ok, Err, Result, sym, refl, ap, ◌∙◌, append_assoc, arith, length-append, take-append-drop, take_all}
+use Rattle.std.proofs.Common.{◌≡◌, ℕ, ◌-◌, ◌<◌, ◌≤◌, true, false, cond, List, [], ◌∷◌, ◌++◌, length, get_or, take, drop, is_ok, Ok, Err, Result, sym, refl, ap, ◌∙◌, append_assoc, arith, length-append, take-append-drop, take_all}
 use Rattle.std.proofs.lemmas.List.{drop-drop, append-nil}
 use Rattle.std.proofs.lemmas.Bool.Decides.{nat_tests}
 use Rattle.sink.specs.declared.refusal.Refusal.{Refusal}
 use Rattle.sink.specs.declared.refusal.Refusal.TheVariants.{Full}
-use Rattle.sink.specs.Refusals.{number_of}
-use Rattle.sink.specs.Meaning.{View, Lawful, grown, answer, Puts, Took, StaysIfRefused, lent}
+use Rattle.sink.specs.Meaning.{View, Lawful, grown, Puts, Took, StaysIfRefused, lent}
 
 -- a view is its parts
 pub same_view : {b b' : List ℕ} {r r' : ℕ} {y y' o o' : List ℕ} → b ≡ b' → r ≡ r' → y ≡ y' → o ≡ o' → ◌≡◌ {A = View} (record { bytes = b; room = r; beyond = y; loans = o }) (record { bytes = b'; room = r'; beyond = y'; loans = o' })

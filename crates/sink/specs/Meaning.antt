@@ -1,5 +1,5 @@
 -- What a sink means, and what its calls promise.
-use Rattle.std.specs.Prelude.{◌≡◌, ℕ, ◌+◌, ◌-◌, ◌≤◌, false, cond, List, [], ◌∷◌, ◌++◌, length, take, drop, is_ok, IfErr, Ok, Err, Result, nat_le}
+use Rattle.std.specs.Prelude.{◌≡◌, ℕ, ◌+◌, ◌-◌, ◌≤◌, false, cond, List, ◌∷◌, ◌++◌, length, take, drop, is_ok, IfErr, Ok, Err, Result, nat_le}
 use Rattle.sink.specs.Refusals.{number_of}
 use Rattle.sink.specs.declared.refusal.Refusal.{Refusal}
 use Rattle.sink.specs.declared.refusal.Refusal.TheVariants.{Full}

@@ -1,6 +1,6 @@
 -- The meaning of memory of which the first bytes are a sink's.
-use Rattle.std.proofs.Common.{arith, sym, ap, ◌∙◌, length-take, take_all}
-use Rattle.std.specs.Prelude.{◌≡◌, ℕ, ◌-◌, ◌≤◌, min, List, [], ◌∷◌, length, take, drop, refl}
+use Rattle.std.proofs.Common.{arith, sym, ◌∙◌, length-take, take_all}
+use Rattle.std.specs.Prelude.{◌≡◌, ℕ, ◌-◌, min, List, [], ◌∷◌, length, take, drop}
 use Rattle.sink.specs.Meaning.{View, Lawful, most_bytes}
 
 -- How many bytes this memory can have as a sink's.

@@ -1,5 +1,5 @@
 -- What a report tells of a sink over fresh memory.
-use Rattle.std.proofs.Common.{◌≡◌, ℕ, ◌-◌, ◌≤◌, cond, List, length, is_ok, Ok, Err, Result, ap, ◌∙◌, arith}
+use Rattle.std.proofs.Common.{◌≡◌, ℕ, ◌-◌, cond, List, length, is_ok, Ok, Err, Result, ap, ◌∙◌, arith}
 use Rattle.sink.specs.declared.refusal.Refusal.{Refusal}
 use Rattle.sink.specs.Meaning.{View, Puts, grown}
 use Rattle.sink.specs.Memory.{capacity, fresh_view}

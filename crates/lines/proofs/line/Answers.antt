@@ -1,5 +1,5 @@
-use Rattle.std.proofs.Common.{◌≤◌, [], ◌∷◌, length, arith, length-append}
-use Rattle.sink.proofs.Grown.{puts_refused, stays_same, fits_not_refused, took, room_after, puts_then, stays_if_fits}
+use Rattle.std.proofs.Common.{[], ◌∷◌, arith, length-append}
+use Rattle.sink.proofs.Grown.{puts_refused, stays_same, fits_not_refused, took, puts_then, stays_if_fits}
 use Rattle.lines.proofs.line.Goals as goal
 
 pub returns-then-text-room : goal.returns-then-text-room

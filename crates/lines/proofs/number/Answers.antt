@@ -1,4 +1,4 @@
-use Rattle.std.proofs.Common.{◌≡◌, ◌-◌, ◌≤◌, length, take, drop, ◌∙◌, arith, length-drop, take_all}
+use Rattle.std.proofs.Common.{◌-◌, ◌≤◌, length, drop, ◌∙◌, arith, length-drop, take_all}
 use Rattle.lines.proofs.number.Goals as goal
 
 pub returns : goal.returns

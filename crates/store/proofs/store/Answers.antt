@@ -1,4 +1,4 @@
-use Rattle.std.proofs.Common.{◌≡◌, ◌+◌, ◌≤◌, length, codes, decimal, arith, length-append}
+use Rattle.std.proofs.Common.{◌≤◌, length, arith}
 use Rattle.sink.proofs.Grown.{puts_refused, stays_same, stays_if_fits, took, took_more, room_after, puts_then, fits_not_refused}
 use Rattle.store.specs.Stored.{stored}
 use Rattle.store.proofs.Flats.{length_stored}

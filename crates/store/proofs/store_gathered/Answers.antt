@@ -1,10 +1,9 @@
-use Rattle.std.proofs.Common.{◌≡◌, ◌≤◌, length, sym, ap, ◌∙◌, arith, rules}
+use Rattle.std.proofs.Common.{◌≡◌, ◌≤◌, length, ap, arith, rules}
 use Rattle.sink.specs.Meaning.{View, lent, lent_lawful}
 use Rattle.sink.proofs.Grown.{settled_memory}
 use Rattle.gather.specs.Gathers.{gathered_lawful}
 use Rattle.gather.proofs.GatherPuts.{gathered_length, gathered_room}
 use Rattle.gather.proofs.Layers.{layered}
-use Rattle.store.specs.Stored.{Told}
 use Rattle.store.proofs.store_gathered.Goals as goal
 
 pub returns : goal.returns

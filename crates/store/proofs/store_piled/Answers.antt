@@ -1,5 +1,5 @@
-use Rattle.std.proofs.Common.{◌≡◌, ◌≤◌, length, refl, ap, arith, rules}
-use Rattle.sink.specs.Meaning.{View, lent}
+use Rattle.std.proofs.Common.{◌≡◌, ◌≤◌, length, refl, arith, rules}
+use Rattle.sink.specs.Meaning.{lent}
 use Rattle.sink.proofs.Grown.{settled_memory}
 use Rattle.gather.proofs.GatherPuts.{gathered_length, gathered_room}
 use Rattle.gather.proofs.Layers.{layered}

@@ -1,4 +1,4 @@
-use Rattle.std.proofs.Common.{◌≡◌, ◌+◌, ◌≤◌, length, sym, refl, ◌∙◌, arith, length-take}
+use Rattle.std.proofs.Common.{◌≤◌, length, sym, refl, ◌∙◌, arith, length-take}
 use Rattle.std.proofs.lemmas.Slice.{put_mid-paste}
 use Rattle.sink.specs.Memory.{memory_view, count_in}
 use Rattle.sink.proofs.Grown.{puts_taken, puts_refused, stays_if_taken, stays_same}

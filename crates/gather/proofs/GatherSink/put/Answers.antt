@@ -1,7 +1,7 @@
-use Rattle.std.proofs.Common.{◌≡◌, ◌≤◌, length, sym, refl, ap, ◌∙◌, arith, rules}
+use Rattle.std.proofs.Common.{◌≡◌, ◌≤◌, length, ap, ◌∙◌, arith, rules}
 use Rattle.sink.specs.Meaning.{View, grown}
 use Rattle.sink.proofs.Grown.{puts_taken, puts_refused, stays_if_taken, stays_if_fits, stays_same}
-use Rattle.gather.specs.Gathers.{waiting, gathered}
+use Rattle.gather.specs.Gathers.{waiting}
 use Rattle.gather.proofs.GatherPuts.{gathered_room, below_all, waits_refused, waits_long, puts_below}
 use Rattle.gather.proofs.GatherSink.put.Goals as goal
 

@@ -1,7 +1,7 @@
 -- `find` answers the first record with the key.
-use Rattle.std.proofs.Common.{◌≡◌, true, false, Some, None, sym, ◌∙◌}
+use Rattle.std.proofs.Common.{◌≡◌, true, sym, ◌∙◌}
 use Rattle.std.proofs.lemmas.Bool.{eq-eqb, ne_eqb}
-use Rattle.tray.specs.Finds.{first_with, with_key}
+use Rattle.tray.specs.Finds.{with_key}
 use Rattle.tray.proofs.Found.{found_at, passed-at, found_none, first_with_key}
 use Rattle.tray.proofs.Tray.find.Goals as goal
 

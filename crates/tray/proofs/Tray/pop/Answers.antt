@@ -1,6 +1,6 @@
 -- `pop` takes off the last record.
-use Rattle.std.proofs.Common.{◌≡◌, ◌-◌, length, take, sym, refl, ap, ◌∙◌}
-use Rattle.tray.specs.Trays.{last_of, front_of, TakesLast}
+use Rattle.std.proofs.Common.{◌≡◌, ◌-◌, length, take, refl, ap, ◌∙◌}
+use Rattle.tray.specs.Trays.{last_of, front_of}
 use Rattle.tray.proofs.Fronts.{take_front, takes_last}
 use Rattle.tray.proofs.Tray.pop.Goals as goal
 

@@ -1,5 +1,5 @@
 -- `place` moves only what stays within its range.
-use Rattle.std.proofs.Common.{◌≡◌, true, false, ◌&&◌, ℤ, ◌+ℤ◌, Some, None, sym, ap, ◌∙◌, w32, SFits, to_z, of_z, rules}
+use Rattle.std.proofs.Common.{◌≡◌, sym, ap, ◌∙◌, w32, SFits, to_z, of_z, rules}
 use Rattle.std.proofs.lemmas.Int.{to_z-of_z}
 use Rattle.page.specs.Numbers.{provided}
 use Rattle.machine.specs.State.{line_inside, placed, with_line}

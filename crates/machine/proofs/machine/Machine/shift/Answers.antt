@@ -1,5 +1,5 @@
 -- `shift` moves only what stays within its range.
-use Rattle.std.proofs.Common.{◌≡◌, ℕ, true, false, ◌&&◌, ℤ, ◌+ℤ◌, Some, None, sym, ap, ◌∙◌, arith, w32, SFits, to_z, of_z, rules}
+use Rattle.std.proofs.Common.{◌≡◌, ℕ, sym, ap, ◌∙◌, arith, w32, SFits, to_z, of_z, rules}
 use Rattle.std.proofs.lemmas.Int.{to_z-of_z}
 use Rattle.page.specs.Numbers.{provided}
 use Rattle.machine.specs.Axes.{axes_inside, shifted}

@@ -1,5 +1,5 @@
 -- Text starts with no advance, and each glyph adds as much.
-use Rattle.std.proofs.Common.{◌≡◌, ◌∙◌, zero-add, rules}
+use Rattle.std.proofs.Common.{◌∙◌, zero-add, rules}
 use Rattle.machine.specs.State.{text_started}
 use Rattle.machine.proofs.Matrices.{advances}
 use Rattle.machine.proofs.machine.Machine.start_text.Goals as goal

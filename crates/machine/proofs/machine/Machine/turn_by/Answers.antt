@@ -1,6 +1,5 @@
 -- Turning adds quarters, and multiplies by the turn's matrix.
 use Rattle.std.proofs.Common.{◌≡◌, ◌+◌, ◌%◌, ap, ◌∙◌, arith}
-use Rattle.machine.specs.Axes.{turned}
 use Rattle.machine.specs.Laws.{matrix_at}
 use Rattle.machine.specs.State.{with_axes}
 use Rattle.machine.proofs.Matrices.{turn_multiplies}

@@ -1,5 +1,5 @@
 -- A byte more, and the whole.
-use Rattle.std.proofs.Common.{◌≡◌, ◌+◌, ◌-◌, min, take, count_by, sym, ap, ◌∙◌, arith}
+use Rattle.std.proofs.Common.{◌≡◌, ◌+◌, ◌-◌, take, count_by, sym, ap, ◌∙◌, arith}
 use Rattle.std.proofs.lemmas.List.{length-take, get_or-take}
 use Rattle.std.specs.List.{suffix_len}
 use Rattle.script.specs.Lines.{ends_line, inside_line, line_at, column_at}
