@@ -56,20 +56,23 @@ def declared():
     """The names that specs/ and proofs/ declare: of definitions, lemmas and types, and of fields and constructors."""
     tops, fields = {}, {}
     for path in files(".antt"):
-        inside = False
+        inside = None
         for line in read(path).splitlines():
             if line.startswith("--") or GOAL.search(line):
+                continue
+            if re.match(r"(abbrev |unfoldable |pub )*mutual\b", line):
+                inside = tops
                 continue
             m = DECLARED.match(line)
             if m:
                 tops.setdefault(m.group(2), set()).add(path)
-                inside = m.group(1) is not None
+                inside = fields if m.group(1) else None
                 continue
             m = FIELD.match(line)
-            if m and inside:
-                fields.setdefault(m.group(1), set()).add(path)
+            if m and inside is not None:
+                inside.setdefault(m.group(1), set()).add(path)
             elif line and not line[0].isspace():
-                inside = False
+                inside = None
     return tops, fields
 
 

@@ -5,7 +5,7 @@ use Rattle.std.proofs.lemmas.Bool.{cases_Bool, and_parts}
 use Rattle.pdf.specs.Bytes.{each, name_byte, stops}
 use Rattle.pdf.specs.Tokens.{Token, int, name, word, array_open, array_close, dict_open, token}
 use Rattle.pdf.specs.Values.{Value, number, named, ref, truth, array, dict, Values, none, ◌◂◌, Entries, end, entry, is_word, is_zero, zero_r, ref_after}
-use Rattle.pdf.specs.Written.{parting, render, renderItems, renderEntries, fine, fineItems, fineEntries}
+use Rattle.pdf.specs.Written.{parting, render, render_items, render_entries, fine, fine_items, fine_entries}
 use Rattle.pdf.specs.Lookups.{count_items, count_entries}
 use Rattle.pdf.proofs.Numbers.{signed_any}
 use Rattle.pdf.proofs.Tokens.{tokens_read_back}
@@ -24,7 +24,7 @@ record Begins (bs : List ℕ) : Type 0 where
 
 -- What is written after a value of an array.
 abbrev pub after_item : Values → List ℕ → List ℕ
-after_item vs rest = (parting vs ++ renderItems vs) ++ rest
+after_item vs rest = (parting vs ++ render_items vs) ++ rest
 
 after_ends : (vs : Values) (rest : List ℕ) → stops (after_item vs rest) ≡ true
 after_ends none rest = refl
@@ -38,17 +38,17 @@ begins (named k) d rest f s = record { first = name k; left = rest; read = token
 begins (ref n) d rest f s =
     record { first = int (pos n); left = codes " 0 R" ++ rest; read = ap token (append_assoc (decimal n) (codes " 0 R") rest) ∙ tokens_read_back (int (pos n)) (codes " 0 R" ++ rest) f refl; other = refl }
 begins truth d rest f s = record { first = word (codes "true"); left = rest; read = tokens_read_back (word (codes "true")) rest refl s; other = refl }
-begins (array vs) d rest f s = record { first = array_open; left = renderItems vs ++ rest; read = refl; other = refl }
-begins (dict es) d rest f s = record { first = dict_open; left = renderEntries es ++ rest; read = refl; other = refl }
+begins (array vs) d rest f s = record { first = array_open; left = render_items vs ++ rest; read = refl; other = refl }
+begins (dict es) d rest f s = record { first = dict_open; left = render_entries es ++ rest; read = refl; other = refl }
 
 -- What follows a value of an array does not begin with the word R.
-after_begins : (vs : Values) (d : ℕ) (rest : List ℕ) → fineItems vs d ≡ true → Begins (after_item vs rest)
+after_begins : (vs : Values) (d : ℕ) (rest : List ℕ) → fine_items vs d ≡ true → Begins (after_item vs rest)
 unfolding token
 after_begins none d rest f = record { first = array_close; left = rest; read = refl; other = refl }
 after_begins (v ◂ vs) d rest f =
-    let p = and_parts (fine v d) (fineItems vs d) f in
+    let p = and_parts (fine v d) (fine_items vs d) f in
     let r = begins v d (after_item vs rest) p.0 (after_ends vs rest) in
-    record { first = r.first; left = r.left; read = ap token (append_assoc (render v) (parting vs ++ renderItems vs) rest) ∙ r.read; other = r.other }
+    record { first = r.first; left = r.left; read = ap token (append_assoc (render v) (parting vs ++ render_items vs) rest) ∙ r.read; other = r.other }
 
 -- Nothing is taken for `0 R` that does not begin with 0, or does not go on with R.
 not_zero : (bs cs : List ℕ) (t : Token) → token bs ≡ Some (t, cs) → is_zero t ≡ false → ref_after bs ≡ None
@@ -62,7 +62,7 @@ not_r bs cs t p b =
     (cases_Bool (is_zero t))
 
 -- No value of an array makes the number before it a reference.
-value_apart : (v : Value) (vs : Values) (d : ℕ) (rest : List ℕ) → fine v d ≡ true → fineItems vs d ≡ true → ref_after (render v ++ after_item vs rest) ≡ None
+value_apart : (v : Value) (vs : Values) (d : ℕ) (rest : List ℕ) → fine v d ≡ true → fine_items vs d ≡ true → ref_after (render v ++ after_item vs rest) ≡ None
 unfolding token
 value_apart (number z) vs d rest f g =
     not_r (signed_decimal z ++ after_item vs rest) (after_item vs rest) (int z) (tokens_read_back (int z) (after_item vs rest) f (after_ends vs rest)) (after_begins vs d rest g)
@@ -77,25 +77,25 @@ value_apart truth vs d rest f g =
 value_apart (array ws) vs d rest f g = refl
 value_apart (dict es) vs d rest f g = refl
 
-pub item_follows : (vs : Values) (d : ℕ) (rest : List ℕ) → fineItems vs d ≡ true → Follows (after_item vs rest)
+pub item_follows : (vs : Values) (d : ℕ) (rest : List ℕ) → fine_items vs d ≡ true → Follows (after_item vs rest)
 unfolding token
 item_follows none d rest f = record { ended = refl; apart = refl }
 item_follows (v ◂ vs) d rest f =
-    let p = and_parts (fine v d) (fineItems vs d) f in
-    record { ended = refl; apart = ap ref_after (append_assoc (render v) (parting vs ++ renderItems vs) rest) ∙ value_apart v vs d rest p.0 p.1 }
+    let p = and_parts (fine v d) (fine_items vs d) f in
+    record { ended = refl; apart = ap ref_after (append_assoc (render v) (parting vs ++ render_items vs) rest) ∙ value_apart v vs d rest p.0 p.1 }
 
 -- A key as it is written in a dictionary is read.
 pub key_read : (s tail : List ℕ) → each name_byte s ≡ true → stops tail ≡ true → token (32 ∷ 47 ∷ (s ++ tail)) ≡ Some (name s, tail)
 unfolding token
 key_read s tail h e = tokens_read_back (name s) tail h e
 
-pub entry_follows : (es : Entries) (d : ℕ) (rest : List ℕ) → fineEntries es d ≡ true → Follows (renderEntries es ++ rest)
+pub entry_follows : (es : Entries) (d : ℕ) (rest : List ℕ) → fine_entries es d ≡ true → Follows (render_entries es ++ rest)
 unfolding token
 entry_follows end d rest f = record { ended = refl; apart = refl }
 entry_follows (entry s v es) d rest f =
-    let p = and_parts (each name_byte s) (fine v d && fineEntries es d) f in
-    let tail : List ℕ = 32 ∷ ((render v ++ renderEntries es) ++ rest) in
-    let joined : renderEntries (entry s v es) ++ rest ≡ 32 ∷ 47 ∷ (s ++ tail) = ap (λ l. 32 ∷ 47 ∷ l) (append_assoc s (32 ∷ (render v ++ renderEntries es)) rest) in
+    let p = and_parts (each name_byte s) (fine v d && fine_entries es d) f in
+    let tail : List ℕ = 32 ∷ ((render v ++ render_entries es) ++ rest) in
+    let joined : render_entries (entry s v es) ++ rest ≡ 32 ∷ 47 ∷ (s ++ tail) = ap (λ l. 32 ∷ 47 ∷ l) (append_assoc s (32 ∷ (render v ++ render_entries es)) rest) in
     record { ended = refl; apart = ap ref_after joined ∙ not_zero (32 ∷ 47 ∷ (s ++ tail)) tail (name s) (key_read s tail p.0 refl) refl }
 
 -- A value has at least one byte, so there are more bytes than values, and than entries.
@@ -107,14 +107,14 @@ render_any truth d f = omega arith
 render_any (array vs) d f = omega arith
 render_any (dict es) d f = omega arith
 
-pub fewer_items : (vs : Values) (d : ℕ) → fineItems vs d ≡ true → count_items vs < length (renderItems vs)
+pub fewer_items : (vs : Values) (d : ℕ) → fine_items vs d ≡ true → count_items vs < length (render_items vs)
 fewer_items none d f = omega arith
 fewer_items (v ◂ vs) d f =
-    let p = and_parts (fine v d) (fineItems vs d) f in
+    let p = and_parts (fine v d) (fine_items vs d) f in
     let h = fewer_items vs d p.1 in
     let r = render_any v d p.0 in
     simp length-append (omega arith)
 
-pub fewer_entries : (es : Entries) → count_entries es < length (renderEntries es)
+pub fewer_entries : (es : Entries) → count_entries es < length (render_entries es)
 fewer_entries end = omega arith
 fewer_entries (entry s v es) = let h = fewer_entries es in simp length-append (omega arith)

@@ -7,7 +7,7 @@ use Rattle.pdf.specs.Bytes.{each, name_byte}
 use Rattle.pdf.specs.Numbers.{in_range}
 use Rattle.pdf.specs.Tokens.{Token, int, name, word, text, array_open, array_close, dict_open, dict_close, token, writable}
 use Rattle.pdf.specs.Values.{Value, truth, Values, Entries, then, ref_after, number_or_ref, after_int, leaf, Reader, Step, fault, last, one, one_more, item_at, item_from, item, on_item, items, keyed, field_at, field_from, field, on_field, entries, Opened, an_array, a_dictionary, nothing, opens, within, value_at, value}
-use Rattle.pdf.specs.Written.{fine, fineItems, fineEntries, render}
+use Rattle.pdf.specs.Written.{fine, fine_items, fine_entries, render}
 use Rattle.pdf.specs.Laws.{ReadingIsStrict}
 use Rattle.pdf.proofs.Strict.{Passes, passes_some, token_strict}
 use Rattle.pdf.proofs.Values.{values_read_back}
@@ -17,10 +17,10 @@ abbrev fine_at : ℕ → Value → Bool
 fine_at d v = fine v d
 
 abbrev fine_items_at : ℕ → Values → Bool
-fine_items_at d vs = fineItems vs d
+fine_items_at d vs = fine_items vs d
 
 abbrev fine_entries_at : ℕ → Entries → Bool
-fine_entries_at d es = fineEntries es d
+fine_entries_at d es = fine_entries es d
 
 abbrev fine_field : ℕ → List ℕ × Value → Bool
 fine_field d e = each name_byte e.0 && fine e.1 d
@@ -111,7 +111,7 @@ field_sound d f bs on = field_from_sound d f (token bs) on (token_strict bs)
 on_item_strict : (d : ℕ) (go : List ℕ → Option (Values × List ℕ)) (s : Step Value) → ((cs : List ℕ) → Passes (fine_items_at d) (go cs)) → Sound (fine_at d) s → Passes (fine_items_at d) (on_item go s)
 on_item_strict d go fault rec h = tt
 on_item_strict d go (last bs) rec h = refl
-on_item_strict d go (one v bs) rec h = then_passes (fine_items_at d) (fine_items_at d) (go bs) _ (rec bs) λ vs cs g. and_from (fine v d) (fineItems vs d) h g
+on_item_strict d go (one v bs) rec h = then_passes (fine_items_at d) (fine_items_at d) (go bs) _ (rec bs) λ vs cs g. and_from (fine v d) (fine_items vs d) h g
 
 on_field_strict : (d : ℕ) (go : List ℕ → Option (Entries × List ℕ)) (s : Step (List ℕ × Value)) → ((cs : List ℕ) → Passes (fine_entries_at d) (go cs)) → Sound (fine_field d) s → Passes (fine_entries_at d) (on_field go s)
 on_field_strict d go fault rec h = tt
@@ -119,7 +119,7 @@ on_field_strict d go (last bs) rec h = refl
 on_field_strict d go (one e bs) rec h =
     let p = and_parts (each name_byte e.0) (fine e.1 d) h in
     then_passes (fine_entries_at d) (fine_entries_at d) (go bs) _ (rec bs) λ es cs g.
-    and_from (each name_byte e.0) (fine e.1 d && fineEntries es d) p.0 (and_from (fine e.1 d) (fineEntries es d) p.1 g)
+    and_from (each name_byte e.0) (fine e.1 d && fine_entries es d) p.0 (and_from (fine e.1 d) (fine_entries es d) p.1 g)
 
 items_strict : (d : ℕ) (f : Reader) (k : ℕ) (bs : List ℕ) → StrictAt d f → Passes (fine_items_at d) (items f k bs)
 unfolding items

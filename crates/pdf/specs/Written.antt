@@ -18,16 +18,16 @@ abbrev mutual
   render (named s) = 47 ∷ s
   render (ref n) = decimal n ++ codes " 0 R"
   render truth = codes "true"
-  render (array vs) = 91 ∷ renderItems vs
-  render (dict es) = 60 ∷ 60 ∷ renderEntries es
+  render (array vs) = 91 ∷ render_items vs
+  render (dict es) = 60 ∷ 60 ∷ render_entries es
 
-  pub renderItems : Values → List ℕ
-  renderItems none = 93 ∷ []
-  renderItems (v ◂ vs) = render v ++ (parting vs ++ renderItems vs)
+  pub render_items : Values → List ℕ
+  render_items none = 93 ∷ []
+  render_items (v ◂ vs) = render v ++ (parting vs ++ render_items vs)
 
-  pub renderEntries : Entries → List ℕ
-  renderEntries end = codes " >>"
-  renderEntries (entry s v es) = 32 ∷ 47 ∷ (s ++ (32 ∷ (render v ++ renderEntries es)))
+  pub render_entries : Entries → List ℕ
+  render_entries end = codes " >>"
+  render_entries (entry s v es) = 32 ∷ 47 ∷ (s ++ (32 ∷ (render v ++ render_entries es)))
 
 -- The test passes one level further in.
 abbrev pub inside : (ℕ → Bool) → ℕ → Bool
@@ -42,13 +42,13 @@ abbrev mutual
   fine (named s) d = each name_byte s
   fine (ref n) d = nat_le n greatest
   fine truth d = true
-  fine (array vs) d = inside (fineItems vs) d
-  fine (dict es) d = inside (fineEntries es) d
+  fine (array vs) d = inside (fine_items vs) d
+  fine (dict es) d = inside (fine_entries es) d
 
-  pub fineItems : Values → ℕ → Bool
-  fineItems none d = true
-  fineItems (v ◂ vs) d = fine v d && fineItems vs d
+  pub fine_items : Values → ℕ → Bool
+  fine_items none d = true
+  fine_items (v ◂ vs) d = fine v d && fine_items vs d
 
-  pub fineEntries : Entries → ℕ → Bool
-  fineEntries end d = true
-  fineEntries (entry s v es) d = each name_byte s && (fine v d && fineEntries es d)
+  pub fine_entries : Entries → ℕ → Bool
+  fine_entries end d = true
+  fine_entries (entry s v es) d = each name_byte s && (fine v d && fine_entries es d)

@@ -1,6 +1,6 @@
 -- White space, comments and tokens at the front of a text.
 use Rattle.std.proofs.Common.{◌≡◌, ℕ, ◌<◌, ◌≤◌, Bool, true, false, not, List, [], ◌∷◌, ◌++◌, length, sym, refl, ⊎_elim, arith}
-use Rattle.std.specs.List.{prefix_len, AllByRecursion as All}
+use Rattle.std.specs.List.{prefix_len, AllByRecursion}
 use Rattle.std.proofs.lemmas.Bool.{cases_Bool, not-true, or_parts}
 use Rattle.std.proofs.lemmas.Bool.Decides.{nat_tests}
 use Rattle.script.specs.Laws.{CommentOver, TokenOver}
@@ -51,7 +51,7 @@ comment_over : (rest : List ℕ) → CommentOver rest → skip_from true rest �
 comment_over [] o = refl
 comment_over (b ∷ bs) o = let w : white b ≡ true = grind (arith, nat_tests) in rw (o, skip_from) (sym (skip_white b bs w))
 
-pub skip_comment : (comment rest : List ℕ) → All (λ c. ends_comment c ≡ false) comment → CommentOver rest → skip_from true (comment ++ rest) ≡ skip_from false rest
+pub skip_comment : (comment rest : List ℕ) → AllByRecursion (λ c. ends_comment c ≡ false) comment → CommentOver rest → skip_from true (comment ++ rest) ≡ skip_from false rest
 skip_comment [] rest a o = comment_over rest o
 skip_comment (c ∷ cs) rest a o = let f : ends_comment c ≡ false = a.0 in rw (f, skip_from) (skip_comment cs rest a.1 o)
 
@@ -60,7 +60,7 @@ token_over : (rest : List ℕ) → TokenOver rest → prefix_len in_token rest �
 token_over [] o = refl
 token_over (b ∷ bs) o = rw o
 
-pub leading_token : (token rest : List ℕ) → All (λ c. in_token c ≡ true) token → TokenOver rest → prefix_len in_token (token ++ rest) ≡ length token
+pub leading_token : (token rest : List ℕ) → AllByRecursion (λ c. in_token c ≡ true) token → TokenOver rest → prefix_len in_token (token ++ rest) ≡ length token
 leading_token [] rest a o = token_over rest o
 leading_token (c ∷ cs) rest a o = let t : in_token c ≡ true = a.0 in rw (t, leading_token cs rest a.1 o) (omega arith)
 

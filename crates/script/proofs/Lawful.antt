@@ -1,6 +1,6 @@
 -- The laws of reading.
 use Rattle.std.proofs.Common.{◌≡◌, ℕ, ◌<◌, true, false, List, [], ◌∷◌, ◌++◌, length, take, drop, sym, refl, ap, ◌∙◌, append_assoc, arith}
-use Rattle.std.specs.List.{AllByRecursion as All}
+use Rattle.std.specs.List.{AllByRecursion}
 use Rattle.std.proofs.lemmas.List.{take_at, drop_at}
 use Rattle.script.specs.Digits.{hex_of}
 use Rattle.script.specs.Tokens.{word_in}
@@ -21,7 +21,7 @@ white_space_is_skipped b text t = same_reading (b ∷ text) text (skip_white b t
 pub comments_are_skipped : CommentsAreSkipped
 comments_are_skipped comment rest a o = same_reading (35 ∷ comment ++ rest) rest (skip_comment comment rest a o)
 
-token_next : (token rest : List ℕ) → 0 < length token → All (λ c. in_token c ≡ true) token → TokenOver rest → next_in (token ++ rest) ≡ step_by (word_in token) (token ++ rest) rest
+token_next : (token rest : List ℕ) → 0 < length token → AllByRecursion (λ c. in_token c ≡ true) token → TokenOver rest → next_in (token ++ rest) ≡ step_by (word_in token) (token ++ rest) rest
 unfolding next_in
 token_next [] rest h a o = absurd (omega arith)
 token_next (c ∷ cs) rest h a o =

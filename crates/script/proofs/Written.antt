@@ -2,7 +2,7 @@
 use Rattle.std.proofs.Common.{◌≡◌, ℕ, zero, suc, ◌+◌, ◌*◌, ◌/◌, ◌%◌, ◌^◌, ◌<◌, true, ◌∷◌, Some, Ok, ap, ◌∙◌, mul_assoc, add-mul, mul_left_comm, arith}
 use native.Mathlib.Nat.{pow-succ', one-le-pow}
 use lib.Arith.{mod-mul}
-use Rattle.std.specs.List.{AllByRecursion as All}
+use Rattle.std.specs.List.{AllByRecursion}
 use Rattle.std.proofs.lemmas.Bool.Decides.{nat_tests}
 use Rattle.script.specs.Digits.{hex_value, hex_digit, hex_digits, hex_of}
 use Rattle.script.specs.Tokens.{digit_then, value_after, word_in}
@@ -14,7 +14,7 @@ value_digit d h = grind (arith, nat_tests)
 digit_in_token : (d : ℕ) → d < 16 → in_token (hex_digit d) ≡ true
 digit_in_token d h = grind (arith, nat_tests)
 
-pub digits_in_token : (k n : ℕ) → All (λ b. in_token b ≡ true) (hex_digits k n)
+pub digits_in_token : (k n : ℕ) → AllByRecursion (λ b. in_token b ≡ true) (hex_digits k n)
 digits_in_token zero n = tt
 digits_in_token (suc k) n = (digit_in_token (n / 16 ^ k % 16) (omega arith), digits_in_token k n)
 

@@ -1,6 +1,6 @@
 -- The laws of reading, in the words of one who writes a script.
 use Rattle.std.specs.Prelude.{◌≡◌, ℕ, ◌^◌, ◌<◌, true, false, List, [], ◌∷◌, ◌++◌, length}
-use Rattle.std.specs.List.{flat_map, AllByRecursion as All}
+use Rattle.std.specs.List.{flat_map, AllByRecursion}
 use Rattle.script.specs.Digits.{hex_of}
 use Rattle.script.specs.Tokens.{word_in}
 use Rattle.script.specs.Readings.{white, ends_comment, in_token, step_by, next_in, onward, all_read, reading_of}
@@ -15,7 +15,7 @@ written ws = flat_map line_of ws
 
 -- What is written is read back.
 abbrev pub WrittenIsRead : Type 0
-WrittenIsRead = (ws : List ℕ) → All (λ w. w < 2 ^ 32) ws → reading_of (written ws) ≡ all_read ws
+WrittenIsRead = (ws : List ℕ) → AllByRecursion (λ w. w < 2 ^ 32) ws → reading_of (written ws) ≡ all_read ws
 
 -- A text is read step by step, to its end: the steps that are allowed never run out.
 abbrev pub StepByStep : Type 0
@@ -33,7 +33,7 @@ CommentOver (b ∷ bs) = ends_comment b ≡ true
 -- A comment in front does not matter, whatever stands in it.
 abbrev pub CommentsAreSkipped : Type 0
 CommentsAreSkipped =
-    (comment rest : List ℕ) → All (λ c. ends_comment c ≡ false) comment → CommentOver rest
+    (comment rest : List ℕ) → AllByRecursion (λ c. ends_comment c ≡ false) comment → CommentOver rest
     → reading_of (35 ∷ comment ++ rest) ≡ reading_of rest
 
 -- A token ends where the text does, or at a byte that belongs to no token.
@@ -44,7 +44,7 @@ TokenOver (b ∷ bs) = in_token b ≡ false
 -- A token in front is the word that it writes, or stops the reading where it begins.
 abbrev pub TokensAreWords : Type 0
 TokensAreWords =
-    (token rest : List ℕ) → 0 < length token → All (λ c. in_token c ≡ true) token → TokenOver rest
+    (token rest : List ℕ) → 0 < length token → AllByRecursion (λ c. in_token c ≡ true) token → TokenOver rest
     → reading_of (token ++ rest) ≡ onward reading_of (step_by (word_in token) (token ++ rest) rest)
 
 -- These tell what any text reads as: it is empty, or begins with white space, a comment or a token.
