@@ -16,8 +16,8 @@ import sys
 ROOT = os.path.join(os.path.dirname(os.path.realpath(__file__)), "..", "crates")
 # one antt name: no white space, no bracket, no separator
 NAME = re.compile(r"[A-Za-z_][\w'\-+*/<>≤≡∷ℕℤ′]*")
-DECLARED = re.compile(r"^(?:(?:abbrev|unfoldable|pub) )*(?:(data|record) )?([A-Za-z][^\s:(){}\[\];,.]*)\s[^=]*?:\s")
-FIELD = re.compile(r"^\s+(?:pub\s+)?([a-z][^\s:(){}\[\];,.=]*)\s+:\s")
+DECLARED = re.compile(r"^(?:(?:abbrev|unfoldable|pub) )*(?:(data|record) )?([A-Za-z][^\s:(){}\[\];,.]*)\s[^=]*?:(?:\s|$)")
+FIELD = re.compile(r"^\s+(?:pub\s+)?([a-z][^\s:(){}\[\];,.=]*)\s+:(?:\s|$)")
 GOAL = re.compile(r":\s+goal\.")
 CLAUSE = re.compile(r"\b(?:requires|ensures|ghost)\b\*?[^{;\n]*\{")
 
@@ -27,6 +27,7 @@ APART = {
     "item-at": "item_at-one",
     "item_from": "item_from-one",
     "word-bytes": "word_bytes-word_of",
+    "first-with": "first_with_lem",
 }
 
 
@@ -60,7 +61,7 @@ def declared():
         for line in read(path).splitlines():
             if line.startswith("--") or GOAL.search(line):
                 continue
-            if re.match(r"(abbrev |unfoldable |pub )*mutual\b", line):
+            if re.match(r"((abbrev |unfoldable |pub )*mutual|module)\b", line):
                 inside = tops
                 continue
             m = DECLARED.match(line)

@@ -27,12 +27,12 @@ module _ (v : View) (buffer part ys : List ℕ) (count at k : ℕ) (start : at �
   same_length : length (put_mid at k buffer ys) ≡ length buffer
   same_length = simp (length-append, length-take, length-drop) (omega (arith, ap length wrote))
 
-  pub waiting-more : waiting v (put_mid at k buffer ys) (at + length part) ≡ waiting v buffer count + length part
-  waiting-more = omega (arith, same_length)
+  pub waiting_more : waiting v (put_mid at k buffer ys) (at + length part) ≡ waiting v buffer count + length part
+  waiting_more = omega (arith, same_length)
 
   pub held_more : gathered v (put_mid at k buffer ys) (at + length part) ≡ grown (gathered v buffer count) part
   held_more =
-      let w : waiting v (put_mid at k buffer ys) (at + length part) ≡ at + length part = omega (arith, waiting-more) in
+      let w : waiting v (put_mid at k buffer ys) (at + length part) ≡ at + length part = omega (arith, waiting_more) in
       let t : take (at + length part) (put_mid at k buffer ys) ≡ take at buffer ++ ys = take-put_mid at k buffer ys _ (omega (arith, ap length wrote)) (omega arith) in
       rw (w, t, wrote, start) (sym (grown_grown v (take (waiting v buffer count) buffer) part))
 

@@ -53,8 +53,8 @@ module _ (test : Open → Bool) (xs : List Open) (i : ℕ) (inv : some_open test
   found_at x h passes = sym (some_reverse test xs ∙ here x h ∙ ap (λ b. b || some_open test (drop (i + 1) xs)) passes)
 
   -- it does not
-  pub passed-at : (x : Open) → i < length xs → test (get_or xs i x) ≡ false → some_open test (drop (i + 1) xs) ≡ some_open test xs
-  passed-at x h fails = sym (here x h ∙ ap (λ b. b || some_open test (drop (i + 1) xs)) fails)
+  pub passed_at : (x : Open) → i < length xs → test (get_or xs i x) ≡ false → some_open test (drop (i + 1) xs) ≡ some_open test xs
+  passed_at x h fails = sym (here x h ∙ ap (λ b. b || some_open test (drop (i + 1) xs)) fails)
 
   -- none is left
   pub found_none : length xs ≤ i → false ≡ some_open test (reverse xs)

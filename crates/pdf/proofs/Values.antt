@@ -47,32 +47,32 @@ mutual
   read_back truth d rest f h = leaf_token d (word (codes "true")) rest refl h.ended refl
   read_back (array vs) zero rest f h = absurd (false≢true f)
   read_back (array vs) (suc d) rest f h =
-      array_read d vs (render_items vs ++ rest) rest (items-read-back vs d (length (render_items vs ++ rest)) rest f (let p = fewer_items vs d f in simp length-append (omega arith)))
+      array_read d vs (render_items vs ++ rest) rest (items_read_back vs d (length (render_items vs ++ rest)) rest f (let p = fewer_items vs d f in simp length-append (omega arith)))
   read_back (dict es) zero rest f h = absurd (false≢true f)
   read_back (dict es) (suc d) rest f h =
-      dict_read d es (render_entries es ++ rest) rest (entries-read-back es d (length (render_entries es ++ rest)) rest f (let p = fewer_entries es in simp length-append (omega arith)))
+      dict_read d es (render_entries es ++ rest) rest (entries_read_back es d (length (render_entries es ++ rest)) rest f (let p = fewer_entries es in simp length-append (omega arith)))
 
-  items-read-back : (vs : Values) (d k : ℕ) (rest : List ℕ) → fine_items vs d ≡ true → count_items vs < k → items (value_at d) k (render_items vs ++ rest) ≡ Some (vs, rest)
-  items-read-back none d zero rest f h = absurd (omega arith)
-  items-read-back none d (suc k) rest f h = items_end (value_at d) k rest
-  items-read-back (v ◂ vs) d zero rest f h = absurd (omega arith)
-  items-read-back (v ◂ vs) d (suc k) rest f h =
+  items_read_back : (vs : Values) (d k : ℕ) (rest : List ℕ) → fine_items vs d ≡ true → count_items vs < k → items (value_at d) k (render_items vs ++ rest) ≡ Some (vs, rest)
+  items_read_back none d zero rest f h = absurd (omega arith)
+  items_read_back none d (suc k) rest f h = items_end (value_at d) k rest
+  items_read_back (v ◂ vs) d zero rest f h = absurd (omega arith)
+  items_read_back (v ◂ vs) d (suc k) rest f h =
       let p = and_parts (fine v d) (fine_items vs d) f in
       let e = read_back v d (after_item vs rest) p.0 (item_follows vs d rest p.1) in
-      let r = items-read-back vs d k rest p.1 (omega arith) in
+      let r = items_read_back vs d k rest p.1 (omega arith) in
       ap (items (value_at d) (suc k)) (append_assoc (render v) (parting vs ++ render_items vs) rest) ∙ items_more d k (render v ++ after_item vs rest) v (after_item vs rest) vs rest e (items_space (value_at d) k vs rest ∙ r)
 
-  entries-read-back : (es : Entries) (d k : ℕ) (rest : List ℕ) → fine_entries es d ≡ true → count_entries es < k → entries (value_at d) k (render_entries es ++ rest) ≡ Some (es, rest)
-  entries-read-back end d zero rest f h = absurd (omega arith)
-  entries-read-back end d (suc k) rest f h = entries_end (value_at d) k rest
-  entries-read-back (entry s v es) d zero rest f h = absurd (omega arith)
-  entries-read-back (entry s v es) d (suc k) rest f h =
+  entries_read_back : (es : Entries) (d k : ℕ) (rest : List ℕ) → fine_entries es d ≡ true → count_entries es < k → entries (value_at d) k (render_entries es ++ rest) ≡ Some (es, rest)
+  entries_read_back end d zero rest f h = absurd (omega arith)
+  entries_read_back end d (suc k) rest f h = entries_end (value_at d) k rest
+  entries_read_back (entry s v es) d zero rest f h = absurd (omega arith)
+  entries_read_back (entry s v es) d (suc k) rest f h =
       let p = and_parts (each name_byte s) (fine v d && fine_entries es d) f in
       let q = and_parts (fine v d) (fine_entries es d) p.1 in
       let more : List ℕ = render_entries es ++ rest in
       let tail : List ℕ = 32 ∷ ((render v ++ render_entries es) ++ rest) in
       let e : value d tail ≡ Some (v, more) = value_space d ((render v ++ render_entries es) ++ rest) ∙ (ap (value d) (append_assoc (render v) (render_entries es) rest) ∙ read_back v d more q.0 (entry_follows es d rest q.1)) in
-      let r = entries-read-back es d k rest q.1 (omega arith) in
+      let r = entries_read_back es d k rest q.1 (omega arith) in
       ap (λ l. entries (value_at d) (suc k) (32 ∷ 47 ∷ l)) (append_assoc s (32 ∷ (render v ++ render_entries es)) rest) ∙ entries_more d k s v (32 ∷ 47 ∷ (s ++ tail)) tail more es rest (key_read s tail p.0 refl) e r
 
 pub values_read_back : ValuesReadBack

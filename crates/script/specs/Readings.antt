@@ -82,7 +82,7 @@ onward reading (word w rest) = before w (reading rest)
 onward reading (stuck why rest) = record { words = []; halt = Some (record { reason = why; rest = rest }) }
 
 -- So many steps at most. Each word takes a byte, so a text's length and one are enough: the law
--- Step-by-step says so.
+-- StepByStep says so.
 unfoldable pub read_within : ℕ → List ℕ → Reading
 read_within zero bs = all_read []
 read_within (suc n) bs = onward (read_within n) (next_in bs)

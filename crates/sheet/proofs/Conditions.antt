@@ -113,27 +113,27 @@ by_tests t k l i f =
           ]
     ]
 
-answered-by-tests :
+answered_by_tests :
     (room : ℕ) (s : Sheet) (w : ℕ) (x : Word) → decoded w ≡ Ok x → Refusals w (Ok x)
     → (t k l i f : Bool) → is_taken s x ≡ t → is_known s x ≡ k → is_within s x ≡ l → is_inside s x ≡ i → fits room (sheet_after s x) ≡ f
     → Answered room s w (option_map word_number (by_tests t k l i f))
-answered-by-tests room s w x d r false k l i f et ek el ei ef = (
+answered_by_tests room s w x d r false k l i f et ek el ei ef = (
   not_taken refl (x, d, et),
   none_below 12 room s w x d r (λ b. absurd (omega arith)) (λ b. absurd (omega arith)) (λ b. absurd (omega arith)) (λ b. absurd (omega arith)) (λ b. absurd (omega arith)),
 )
-answered-by-tests room s w x d r true false l i f et ek el ei ef = (
+answered_by_tests room s w x d r true false l i f et ek el ei ef = (
   no_such_element refl (x, d, leb-false (element_named x) (length s.drawing.tree.elements) (sym (known s x) ∙ ek)),
   none_below 13 room s w x d r (λ _. et) (λ b. absurd (omega arith)) (λ b. absurd (omega arith)) (λ b. absurd (omega arith)) (λ b. absurd (omega arith)),
 )
-answered-by-tests room s w x d r true true false i f et ek el ei ef =
+answered_by_tests room s w x d r true true false i f et ek el ei ef =
     (limit_passed refl (x, d, beyond_passes_one s x el), none_below 14 room s w x d r (λ _. et) (λ _. ek) (λ b. absurd (omega arith)) (λ b. absurd (omega arith)) (λ b. absurd (omega arith)))
-answered-by-tests room s w x d r true true true false f et ek el ei ef =
+answered_by_tests room s w x d r true true true false f et ek el ei ef =
     (place_outside refl (x, d, outside_moves_one s x ei), none_below 15 room s w x d r (λ _. et) (λ _. ek) (λ _. el) (λ b. absurd (omega arith)) (λ b. absurd (omega arith)))
-answered-by-tests room s w x d r true true true true false et ek el ei ef = (
+answered_by_tests room s w x d r true true true true false et ek el ei ef = (
   room_below_reserve refl (x, d, leb-false (length (so_far (sheet_after s x)) + reserve (sheet_after s x)) room ef),
   none_below 16 room s w x d r (λ _. et) (λ _. ek) (λ _. el) (λ _. ei) (λ b. absurd (omega arith)),
 )
-answered-by-tests room s w x d r true true true true true et ek el ei ef =
+answered_by_tests room s w x d r true true true true true et ek el ei ef =
     λ m h. none_below 17 room s w x d r (λ _. et) (λ _. ek) (λ _. el) (λ _. ei) (λ _. ef) m (numbered m room s w h).1 h
 
 -- only the kind's condition has a number below the payload's, and none has one below the kind's
@@ -155,7 +155,7 @@ answered_by_bits room s w (Err refusal.Payload) d r =
     let h = r.by_payload.0 refl in
     (payload_outside refl h.1, none_below_payload room s w h.0)
 answered_by_bits room s w (Ok x) d r =
-    answered-by-tests room s w x d r (is_taken s x) (is_known s x) (is_within s x) (is_inside s x) (fits room (sheet_after s x)) refl refl refl refl refl
+    answered_by_tests room s w x d r (is_taken s x) (is_known s x) (is_within s x) (is_inside s x) (fits room (sheet_after s x)) refl refl refl refl refl
 
 answered : (room : ℕ) (s : Sheet) (w : ℕ) → Answered room s w (refused_by room s w)
 answered room s w = answered_by_bits room s w (decoded w) refl (refusals w)

@@ -15,17 +15,17 @@ module _ (m part ys : List ℕ) (len at k o : ℕ) (start : at ≡ length (memor
   same_length : length (put_mid at k m ys) ≡ length m
   same_length = simp (length-append, length-take, length-drop) (omega (arith, is_at, ap length wrote))
 
-  held-put : count_in (put_mid at k m ys) (at + length part) ≡ at + length part
-  held-put = omega (arith, is_at, same_length)
+  held_put : count_in (put_mid at k m ys) (at + length part) ≡ at + length part
+  held_put = omega (arith, is_at, same_length)
 
   -- the part stands after the bytes
-  pub memory-put : memory_view (put_mid at k m ys) (at + length part) o ≡ grown (memory_view m len o) part
+  pub memory_put : memory_view (put_mid at k m ys) (at + length part) o ≡ grown (memory_view m len o) part
   unfolding grown
-  memory-put =
+  memory_put =
       same_view
-      (rw held-put (take-put_mid at k m ys _ (omega (arith, ap length wrote)) (omega (arith, is_at)) ∙ rw (is_at, wrote)))
+      (rw held_put (take-put_mid at k m ys _ (omega (arith, ap length wrote)) (omega (arith, is_at)) ∙ rw (is_at, wrote)))
       (omega (arith, is_at, same_length))
-      (rw held-put (drop-put_mid at k m ys _ (omega arith) (omega (arith, is_at)) (omega (arith, ap length wrote)) ∙ rw is_at (sym (drop-drop (length part) (count_in m len) m))))
+      (rw held_put (drop-put_mid at k m ys _ (omega arith) (omega (arith, is_at)) (omega (arith, ap length wrote)) ∙ rw is_at (sym (drop-drop (length part) (count_in m len) m))))
       refl
 
 -- A sink over fresh memory m, lent under the name o, after one text: what the memory m' then holds.

@@ -10,8 +10,8 @@ module _ {T : Type 0} (test : T → Bool) (xs : List T) (i : ℕ) (inv : first_w
   found_at x h e passes = sym (sym inv ∙ at_drop_more (first_with test) xs i x h ∙ rw (← e) (cond-true _ _ _ passes))
 
   -- it does not
-  pub passed-at : (x : T) → i < length xs → x ≡ get_or xs i x → test x ≡ false → first_with test (drop (i + 1) xs) ≡ first_with test xs
-  passed-at x h e fails = sym (sym inv ∙ at_drop_more (first_with test) xs i x h ∙ rw (← e) (cond-false _ _ _ fails))
+  pub passed_at : (x : T) → i < length xs → x ≡ get_or xs i x → test x ≡ false → first_with test (drop (i + 1) xs) ≡ first_with test xs
+  passed_at x h e fails = sym (sym inv ∙ at_drop_more (first_with test) xs i x h ∙ rw (← e) (cond-false _ _ _ fails))
 
   -- none is left
   pub found_none : length xs ≤ i → None ≡ first_with test xs
@@ -44,8 +44,8 @@ module _ {T : Type 0} (test : T → Bool) (Sought : T → Type 0) (tells : (x : 
       (λ fails. none_more x xs (length xs) fails (missed xs (sym (cond-false _ _ _ fails) ∙ e)))
       (cases_Bool (test x))
 
-  pub first-with : (xs : List T) (r : Option T) → r ≡ first_with test xs → FirstWith Sought xs r
-  first-with xs r e = record { found = λ x is. earliest xs x (sym e ∙ is); missing = λ is. missed xs (sym e ∙ is) }
+  pub first_with_lem : (xs : List T) (r : Option T) → r ≡ first_with test xs → FirstWith Sought xs r
+  first_with_lem xs r e = record { found = λ x is. earliest xs x (sym e ∙ is); missing = λ is. missed xs (sym e ∙ is) }
 
 pub first_with_key : {T : Type 0} (key : T → ℕ) (k : ℕ) (xs : List T) (r : Option T) → r ≡ first_with (with_key key k) xs → FirstWith (λ x. key x ≡ k) xs r
-first_with_key key k = first-with (with_key key k) (λ x. key x ≡ k) (λ x. eqb-true (key x) k) (λ x. eq-eqb (key x) k)
+first_with_key key k = first_with_lem (with_key key k) (λ x. key x ≡ k) (λ x. eqb-true (key x) k) (λ x. eq-eqb (key x) k)

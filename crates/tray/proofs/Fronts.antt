@@ -43,8 +43,8 @@ module _ {T : Type 0} (c : ℕ) (m : List T) (n : ℕ) (held : n ≡ length (tak
     pub take_put : take (n + 1) (set m n x) ≡ take c m ++ x ∷ []
     take_put = take_more_set m n x more ∙ rw here
 
-    pub drop-put : drop (n + 1) (set m n x) ≡ drop 1 (drop c m)
-    drop-put = drop-set-lt (n + 1) m n x (omega arith) ∙ rw here (sym (drop-drop 1 n m))
+    pub drop_put : drop (n + 1) (set m n x) ≡ drop 1 (drop c m)
+    drop_put = drop-set-lt (n + 1) m n x (omega arith) ∙ rw here (sym (drop-drop 1 n m))
 
 -- all but the last of the list is a shorter front of the memory
 pub take_front : {T : Type 0} (c : ℕ) (m : List T) → take (length (take c m) - 1) m ≡ front_of (take c m)
@@ -92,13 +92,13 @@ module _ {T : Type 0} (c : ℕ) (m : List T) (n : ℕ) (held : n ≡ length (tak
   fits : n ≤ length m
   fits = let l = length-take c m in omega arith
 
-  pub take-wiped : take c (put_mid n (length m - n) m ys) ≡ take c m
-  take-wiped =
+  pub take_wiped : take c (put_mid n (length m - n) m ys) ≡ take c m
+  take_wiped =
       let now : take n (put_mid n (length m - n) m ys) ≡ take c m = take-put_mid_below n (length m - n) m ys n (omega arith) fits ∙ ap (λ k. take k m) held ∙ take_held c m in
       sym (take_held c (put_mid n (length m - n) m ys)) ∙ ap (λ k. take k (put_mid n (length m - n) m ys)) same_count ∙ now
 
-  pub drop-wiped : drop c (put_mid n (length m - n) m ys) ≡ replicate (length (drop c m)) y
-  drop-wiped =
+  pub drop_wiped : drop c (put_mid n (length m - n) m ys) ≡ replicate (length (drop c m)) y
+  drop_wiped =
       let l = length-take c m in
       let many : length m - n ≡ length (drop c m) = omega (arith, length-drop c m) in
       let none : drop (length m - n) (drop n m) ≡ [] = drop_all (length m - n) (drop n m) (omega (arith, length-drop n m)) in
@@ -108,12 +108,12 @@ module _ {T : Type 0} (c : ℕ) (m : List T) (n : ℕ) (held : n ≡ length (tak
 
 -- what the answer to one record more says of the memory m with c records
 module _ {T : Type 0} (c : ℕ) (m : List T) where
-  pub below-from-ok : {u : Unit} → Ok u ≡ answer (length (drop c m)) → c < length m
-  below-from-ok {u} e = let l = length-drop c m in grind (arith, nat_tests)
+  pub below_from_ok : {u : Unit} → Ok u ≡ answer (length (drop c m)) → c < length m
+  below_from_ok {u} e = let l = length-drop c m in grind (arith, nat_tests)
 
-  pub full-from-err : {f : Refusal} → Err f ≡ answer (length (drop c m)) → (length m ≤ c) × (f ≡ Full)
-  full-from-err {f} e = let l = length-drop c m in (grind (arith, nat_tests), grind (arith, nat_tests))
+  pub full_from_err : {f : Refusal} → Err f ≡ answer (length (drop c m)) → (length m ≤ c) × (f ≡ Full)
+  full_from_err {f} e = let l = length-drop c m in (grind (arith, nat_tests), grind (arith, nat_tests))
 
   -- the list with one record more, and the memory after it
-  pub whole-put : (x : T) → (take c m ++ x ∷ []) ++ drop 1 (drop c m) ≡ take c m ++ x ∷ drop (c + 1) m
-  whole-put x = append_assoc (take c m) (x ∷ []) (drop 1 (drop c m)) ∙ ap (λ ys. take c m ++ x ∷ ys) (drop-drop 1 c m)
+  pub whole_put : (x : T) → (take c m ++ x ∷ []) ++ drop 1 (drop c m) ≡ take c m ++ x ∷ drop (c + 1) m
+  whole_put x = append_assoc (take c m) (x ∷ []) (drop 1 (drop c m)) ∙ ap (λ ys. take c m ++ x ∷ ys) (drop-drop 1 c m)

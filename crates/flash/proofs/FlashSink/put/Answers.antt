@@ -2,7 +2,7 @@ use Rattle.std.proofs.Common.{◌≤◌, length, sym, refl, ◌∙◌, arith, le
 use Rattle.std.proofs.lemmas.Slice.{put_mid-paste}
 use Rattle.sink.specs.Memory.{memory_view, count_in}
 use Rattle.sink.proofs.Grown.{puts_taken, puts_refused, stays_if_taken, stays_same}
-use Rattle.sink.proofs.MemoryPuts.{memory-put}
+use Rattle.sink.proofs.MemoryPuts.{memory_put}
 use Rattle.flash.specs.Words.{flat}
 use Rattle.flash.proofs.Packs.{length_flat}
 use Rattle.flash.proofs.FlashSink.put.Goals as goal
@@ -22,6 +22,6 @@ returns c =
     let d = flat p.words.now in
     let at = c.len-at.result in
     let fits : length part ≤ (memory_view d p.len p.words.ghost_name).room = omega (arith, c.if-n-room.false, c.room.ensures) in
-    let put = memory-put d part part p.len at (length part) p.words.ghost_name c.len-at.ensures fits refl refl in
+    let put = memory_put d part part p.len at (length part) p.words.ghost_name c.len-at.ensures fits refl refl in
     let is = c.set_bytes.ensures ∙ sym (put_mid-paste at (length part) d part part (length part) refl refl refl) in
     record { puts = puts_taken fits (rw is put); stays = stays_if_taken }

@@ -1,5 +1,5 @@
 use Rattle.std.proofs.Common.{refl, arith}
-use Rattle.gather.proofs.GatherPuts.{held_more, waiting-more}
+use Rattle.gather.proofs.GatherPuts.{held_more, waiting_more}
 use Rattle.gather.proofs.Gather.hold.Goals as goal
 
 pub returns : goal.returns
@@ -9,5 +9,5 @@ returns g c =
     record {
       after = held_more v _ _ _ _ _ _ c.waiting-at.ensures.value c.requires.fits c.requires.room (omega arith) wrote;
       below = refl;
-      more = waiting-more v _ _ _ _ _ _ c.waiting-at.ensures.value c.requires.fits c.requires.room (omega arith) wrote;
+      more = waiting_more v _ _ _ _ _ _ c.waiting-at.ensures.value c.requires.fits c.requires.room (omega arith) wrote;
     }

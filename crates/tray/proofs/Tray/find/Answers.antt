@@ -2,7 +2,7 @@
 use Rattle.std.proofs.Common.{◌≡◌, true, sym, ◌∙◌}
 use Rattle.std.proofs.lemmas.Bool.{eq-eqb, ne_eqb}
 use Rattle.tray.specs.Finds.{with_key}
-use Rattle.tray.proofs.Found.{found_at, passed-at, found_none, first_with_key}
+use Rattle.tray.proofs.Found.{found_at, passed_at, found_none, first_with_key}
 use Rattle.tray.proofs.Tray.find.Goals as goal
 
 pub returns-then-key : goal.returns-then-key
@@ -14,7 +14,7 @@ returns-then-key g c =
 
 pub loop-x-preserved : goal.loop-x-preserved
 loop-x-preserved g c =
-    passed-at _ _ c.loop-x.x-index c.loop-x.invariant _ c.loop-x-test.true c.x-item.is (ne_eqb _ _ (λ e. c.if-key.false (c.key.ensures ∙ e)))
+    passed_at _ _ c.loop-x.x-index c.loop-x.invariant _ c.loop-x-test.true c.x-item.is (ne_eqb _ _ (λ e. c.if-key.false (c.key.ensures ∙ e)))
 
 pub returns : goal.returns
 returns g c =

@@ -1,7 +1,7 @@
 -- `push` refuses where the tray is full, and else puts the record at the end.
 use Rattle.std.proofs.Common.{◌<◌, ◌≤◌, length, refl, arith}
 use Rattle.std.proofs.lemmas.Bool.{false≢true}
-use Rattle.tray.proofs.Fronts.{full, takes, take_put, drop-put}
+use Rattle.tray.proofs.Fronts.{full, takes, take_put, drop_put}
 use Rattle.tray.proofs.Tray.push.Goals as goal
 
 pub returns-then-n-capacity : goal.returns-then-n-capacity
@@ -18,7 +18,7 @@ returns g c =
     record {
       answers = takes t.count t.memory.now _ held c.args.item more;
       list = take_put t.count t.memory.now _ held c.args.item more;
-      rest = drop-put t.count t.memory.now _ held c.args.item more;
+      rest = drop_put t.count t.memory.now _ held c.args.item more;
       refused = λ e. absurd (false≢true e);
       loan = refl;
     }
