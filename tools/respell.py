@@ -21,7 +21,7 @@ FIELD = re.compile(r"^\s+(?:pub\s+)?([a-z][^\s:(){}\[\];,.=]*)\s+:(?:\s|$)")
 GOAL = re.compile(r":\s+goal\.")
 CLAUSE = re.compile(r"\b(?:requires|ensures|ghost)\b\*?[^{;\n]*\{")
 
-# Lemmas that would fall together with the definition they speak of are named by what they equate.
+# Lemmas that would fall together with the definition they speak of: named by what they equate, or with _lem behind.
 APART = {
     "adopted-at": "length-adopted_at",
     "item-at": "item_at-one",
