@@ -3,7 +3,7 @@ ghost use Rattle.std.specs.Prelude.{◌≡◌};
 ghost use Rattle.sheet.specs.Faults.{fault_number};
 
 // What is wrong with a file.
-#[derive(Clone, Copy)]
+#[derive(Clone, Copy, PartialEq, Eq, Debug)]
 pub enum FaultKind {
     // The header line.
     Header,
@@ -24,19 +24,19 @@ pub enum FaultKind {
 }
 
 // A fault, with the object or entry that it is found in (0 if none) and an offset in the file.
-#[derive(Clone, Copy)]
+#[derive(Clone, Copy, PartialEq, Eq, Debug)]
 pub struct Fault {
     pub kind: FaultKind,
     pub object: u32,
     pub offset: u32,
 }
 
-impl FaultKind {
-    // The number that the fault is known by.
-    pub fn number(self) -> u32
-        ensures { result ≡ fault_number self }
-    {
-        match self {
+// The number that a fault is known by.
+impl From<FaultKind> for u32 {
+    ghost from_gives = { λ kind number. number ≡ fault_number kind };
+
+    fn from(kind: FaultKind) -> u32 {
+        match kind {
             FaultKind::Header => 22,
             FaultKind::Table => 23,
             FaultKind::Start => 24,

@@ -41,12 +41,12 @@ pub struct Note {
     pub number: u32,
 }
 
-impl BeginRefusal {
-    // The number that the refusal is known by.
-    pub fn number(self) -> u32
-        ensures { result ≡ begin_number self }
-    {
-        match self {
+// The number that a refusal to begin is known by.
+impl From<BeginRefusal> for u32 {
+    ghost from_gives = { λ refusal number. number ≡ begin_number refusal };
+
+    fn from(refusal: BeginRefusal) -> u32 {
+        match refusal {
             BeginRefusal::Long => 1,
             BeginRefusal::ShortTray => 2,
             BeginRefusal::Begun => 3,
@@ -55,12 +55,12 @@ impl BeginRefusal {
     }
 }
 
-impl WordRefusal {
-    // The number that the refusal is known by.
-    pub fn number(self) -> u32
-        ensures { result ≡ word_number self }
-    {
-        match self {
+// The number that a word's refusal is known by.
+impl From<WordRefusal> for u32 {
+    ghost from_gives = { λ refusal number. number ≡ word_number refusal };
+
+    fn from(refusal: WordRefusal) -> u32 {
+        match refusal {
             WordRefusal::Unread { why } => u32::from(why.number()),
             WordRefusal::NotTaken => 12,
             WordRefusal::NoElement => 13,
