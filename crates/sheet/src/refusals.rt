@@ -35,6 +35,7 @@ pub enum WordRefusal {
 }
 
 // A refused word: its place in the script, from 0, and the number of the refusal.
+// A number and no enum: this is the record of the note tray, which the caller of the library lends and reads.
 #[derive(Clone, Copy)]
 pub struct Note {
     pub place: u32,
