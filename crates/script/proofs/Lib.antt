@@ -4,5 +4,4 @@ pub mod Fronts
 pub mod Stepwise
 pub mod Lawful
 pub mod Turns
-pub mod Valued
 pub mod Taken

@@ -4,25 +4,23 @@ use Rattle.script.specs.Lines.{position_of}
 use Rattle.script.specs.Readings.{Step, finished, word, stuck, Halt, Reading}
 use Rattle.script.specs.declared.token.Reason.{Reason}
 use Rattle.script.specs.declared.scan.Fault.{Fault}
-use Rattle.script.specs.declared.scan.Item.{Item}
-use Rattle.script.specs.declared.scan.Item.TheVariants as item
 use Rattle.script.specs.declared.scan.Reader.{Reader}
 use Rattle.script.specs.declared.load.ScriptFault.{ScriptFault}
 use Rattle.script.specs.declared.load.ScriptFault.TheVariants.{Unreadable, TooMany}
 
 -- The bytes that a reader has not yet passed.
 abbrev pub left : Reader → List ℕ
-left r = drop r.at r.text.now
+left r = r.rest.now
 
 -- A fault where the rest of the text begins.
 abbrev pub fault_at : List ℕ → Reason → List ℕ → Fault
 fault_at text why rest = record { place = position_of text (length text - length rest); reason = why }
 
 -- A step as the reader tells it.
-abbrev pub item_of : List ℕ → Step → Item
-item_of text finished = item.End
-item_of text (word w rest) = item.Word w
-item_of text (stuck why rest) = item.Bad (fault_at text why rest)
+abbrev pub item_of : List ℕ → Step → Result (Option ℕ) Fault
+item_of text finished = Ok None
+item_of text (word w rest) = Ok (Some w)
+item_of text (stuck why rest) = Err (fault_at text why rest)
 
 -- A count, where nothing stopped the reading, or else the fault that did.
 abbrev pub count_or : List ℕ → ℕ → Option Halt → Result ℕ Fault

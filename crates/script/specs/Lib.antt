@@ -5,3 +5,4 @@ pub mod Tokens
 pub mod Readings
 pub mod Answers
 pub mod Laws
+pub mod Texts

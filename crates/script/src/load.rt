@@ -1,16 +1,45 @@
 // A whole script, counted or read into lent memory.
-ghost use Rattle.std.specs.Prelude.{◌≡◌, length};
+ghost use Rattle.std.specs.Prelude.{◌≡◌, length, Some};
 ghost use Rattle.script.specs.Readings.{reading_of};
 ghost use Rattle.script.specs.Answers.{counted, within, memory_by, overlaid};
 ghost use Rattle.script.specs.Laws.{ReadingIsLawful};
+ghost use Rattle.script.specs.Texts.{script_fault_text};
+ghost use Rattle.script.specs.declared.load.ScriptFault.TheVariants.{Unreadable};
 
-use crate::scan::{Fault, Item, Reader};
+use crate::scan::{Fault, Reader};
+use std::error::Error;
+use std::fmt;
 
 // Why a script is refused: a token that cannot be read, or more words, so many, than the memory takes.
-#[derive(Clone, Copy, PartialEq, Debug)]
+#[derive(Clone, Copy, PartialEq, Eq, Debug)]
 pub enum ScriptFault {
     Unreadable(Fault),
     TooMany(usize),
+}
+
+impl fmt::Display for ScriptFault {
+    ghost output = { λ fault. Some (script_fault_text fault) };
+
+    fn fmt<W: fmt::Write>(&self, f: &mut fmt::Formatter<W>) -> fmt::Result {
+        match self {
+            ScriptFault::Unreadable(why) => write!(f, "{why}"),
+            ScriptFault::TooMany(count) => write!(
+                f,
+                "{count} words are more than the memory takes"
+            ),
+        }
+    }
+}
+
+impl Error for ScriptFault {}
+
+// A fault is why a script is unreadable.
+impl From<Fault> for ScriptFault {
+    ghost from_gives = { λ fault e. e ≡ Unreadable fault };
+
+    fn from(fault: Fault) -> ScriptFault {
+        ScriptFault::Unreadable(fault)
+    }
 }
 
 // How many words a script has, or the fault of the first that cannot be read.
@@ -19,13 +48,10 @@ pub fn count_words(text: &[u8]) -> Result<usize, Fault>
 {
     let mut reader = Reader::new(text);
     let mut count: usize = 0;
-    loop {
-        match reader.next() {
-            Item::Word(_) => count += 1,
-            Item::Bad(fault) => return Err(fault),
-            Item::End => return Ok(count),
-        }
+    while reader.next()?.is_some() {
+        count += 1;
     }
+    Ok(count)
 }
 
 // Stores the words of a script at the front of the memory, as far as both go.
@@ -34,7 +60,7 @@ fn fill(text: &[u8], words: &mut [u32])
 {
     let mut reader = Reader::new(text);
     for slot in words.iter_mut() {
-        let Item::Word(word) = reader.next() else {
+        let Ok(Some(word)) = reader.next() else {
             return;
         };
         *slot = word;
@@ -47,10 +73,7 @@ pub fn read_script(text: &[u8], words: &mut [u32]) -> Result<usize, ScriptFault>
     ensures memory { words.new ≡ memory_by result (reading_of text.now).words words.old }
     ensures laws { ReadingIsLawful }
 {
-    let count = match count_words(text) {
-        Ok(count) => count,
-        Err(fault) => return Err(ScriptFault::Unreadable(fault)),
-    };
+    let count = count_words(text)?;
     if count > words.len() {
         return Err(ScriptFault::TooMany(count));
     }

@@ -3,7 +3,7 @@ ghost use Rattle.std.specs.Prelude.{◌≡◌};
 ghost use Rattle.script.specs.Lines.{position_of};
 
 // A line and a column, both from 1. A column counts bytes.
-#[derive(Clone, Copy, PartialEq, Debug)]
+#[derive(Clone, Copy, PartialEq, Eq, Debug)]
 pub struct Position {
     pub line: usize,
     pub column: usize,
@@ -14,16 +14,16 @@ impl Position {
     pub fn of(text: &[u8], at: usize) -> Position
         ensures { result ≡ position_of text.now at }
     {
-        let mut line: usize = 1;
-        let mut column: usize = 1;
-        for byte in &text[0..at.min(text.len())] {
-            if *byte == b'\n' {
-                line += 1;
-                column = 1;
-            } else {
-                column += 1;
-            }
+        let before = &text[..at.min(text.len())];
+        let line_ends = before.iter().filter(|byte| **byte == b'\n').count();
+        let in_line = before
+            .iter()
+            .rev()
+            .take_while(|byte| **byte != b'\n')
+            .count();
+        Position {
+            line: 1 + line_ends,
+            column: 1 + in_line,
         }
-        Position { line, column }
     }
 }

@@ -1,32 +1,38 @@
 // A reader that takes a script's words from its text, one after another.
-ghost use Rattle.std.specs.Prelude.{◌≡◌, ℕ, ◌+◌, ◌<◌, false, length, drop};
+ghost use Rattle.std.specs.Prelude.{◌≡◌, ℕ, ◌<◌, ◌≤◌, false, length, Some};
 ghost use Rattle.std.specs.List.{prefix_len};
 ghost use Rattle.script.specs.Readings.{white, ends_comment, in_token, skip_from, next_in, left_after};
-ghost use Rattle.script.specs.Answers.{left, item_of};
+ghost use Rattle.script.specs.Texts.{fault_text};
 
 use crate::place::Position;
 use crate::token::{Reason, word_in};
+use std::error::Error;
+use std::fmt;
 
 // A token that cannot be read: where its first byte stands, and why.
-#[derive(Clone, Copy, PartialEq, Debug)]
+#[derive(Clone, Copy, PartialEq, Eq, Debug)]
 pub struct Fault {
     pub place: Position,
     pub reason: Reason,
 }
 
-// What a reader finds next.
-#[derive(Clone, Copy, PartialEq, Debug)]
-pub enum Item {
-    Word(u32),
-    Bad(Fault),
-    End,
+impl fmt::Display for Fault {
+    ghost output = { λ fault. Some (fault_text fault) };
+
+    fn fmt<W: fmt::Write>(&self, f: &mut fmt::Formatter<W>) -> fmt::Result {
+        let Position { line, column } = self.place;
+        write!(f, "line {line}, column {column}: {}", self.reason)
+    }
 }
 
-// A text, and how far it has been read.
+impl Error for Fault {}
+
+// A text, and what of it is still to be read.
 #[derive(Clone, Copy)]
 pub struct Reader<'a> {
     text: &'a [u8],
-    at: usize,
+    rest: &'a [u8],
+    ghost within: { length rest.now ≤ length text.now },
 }
 
 // White space: tab, LF, vertical tab, form feed, CR or space.
@@ -50,68 +56,61 @@ fn is_in_token(byte: u8) -> bool
     !is_white(byte) && byte != b'#'
 }
 
-// The place after the white space and the comments that stand at a place.
-fn skip(text: &[u8], at: usize) -> usize
-    ensures { drop result text.now ≡ skip_from false (drop at text.now) }
+// What follows the white space and the comments in front.
+fn skip(text: &[u8]) -> &[u8]
+    ensures rest { result.now ≡ skip_from false text.now }
+    ensures no_longer { length result.now ≤ length text.now }
 {
     let mut comment = false;
-    let mut i = at;
-    while i < text.len() {
-        let byte = text[i];
+    for (i, byte) in text.iter().enumerate() {
         if comment {
-            comment = !ends_comment(byte);
-        } else if byte == b'#' {
+            comment = !ends_comment(*byte);
+        } else if *byte == b'#' {
             comment = true;
-        } else if !is_white(byte) {
-            return i;
+        } else if !is_white(*byte) {
+            return &text[i..];
         }
-        i += 1;
     }
-    i
+    &[]
 }
 
-// Where the token at a place ends.
-fn token_end(text: &[u8], start: usize) -> usize
-    ensures { result ≡ start + prefix_len in_token (drop start text.now) }
+// How many bytes the token in front has.
+fn token_len(text: &[u8]) -> usize
+    ensures len { result ≡ prefix_len in_token text.now }
+    ensures within { result ≤ length text.now }
 {
-    let mut end = start;
-    while end < text.len() && is_in_token(text[end]) {
-        end += 1;
-    }
-    end
+    text.iter().take_while(|byte| is_in_token(**byte)).count()
 }
 
 impl<'a> Reader<'a> {
+    ghost use Rattle.script.specs.Answers.{left, fault_at, item_of};
+
     // A reader before the first word.
     pub fn new(text: &'a [u8]) -> Reader<'a>
         ensures left { left result ≡ text.now }
         ensures text { result.text.now ≡ text.now }
     {
-        Reader { text, at: 0 }
+        Reader { text, rest: text }
     }
 
-    // Takes the next word. After a token that cannot be read the reader stands before that token.
-    pub fn next(&mut self) -> Item
+    // Takes the next word; none at the end. After a token that cannot be read the reader stands before that token.
+    pub fn next(&mut self) -> Result<Option<u32>, Fault>
         ensures item { result ≡ item_of self.old.text.now (next_in (left self.old)) }
         ensures left { left self.new ≡ left_after (next_in (left self.old)) }
         ensures text { self.new.text.now ≡ self.old.text.now }
-        ensures shorter { (w : ℕ) → result ≡ Item.Word w → length (left self.new) < length (left self.old) }
+        ensures shorter { (w : ℕ) → result ≡ Ok (Some w) → length (left self.new) < length (left self.old) }
     {
-        let start = skip(self.text, self.at);
-        self.at = start;
-        if start >= self.text.len() {
-            return Item::End;
+        self.rest = skip(self.rest);
+        if self.rest.is_empty() {
+            return Ok(None);
         }
-        let end = token_end(self.text, start);
-        match word_in(&self.text[start..end]) {
-            Ok(word) => {
-                self.at = end;
-                Item::Word(word)
-            }
-            Err(reason) => Item::Bad(Fault {
-                place: Position::of(self.text, start),
-                reason,
-            }),
-        }
+        let (token, after) = self.rest.split_at(token_len(self.rest));
+        let start = self.text.len() - self.rest.len();
+        let word = word_in(token).map_err(|reason| Fault {
+            place: Position::of(self.text, start),
+            reason,
+        })?;
+        self.rest = after;
+        Ok(Some(word))
     }
 }

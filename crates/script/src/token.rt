@@ -1,11 +1,13 @@
 // One token of a script, and the word that it writes.
-ghost use Rattle.std.specs.Prelude.{◌≡◌};
-ghost use Rattle.script.specs.Tokens.{message_of, is_prefix, digits_in, value_of, word_in};
+ghost use Rattle.std.specs.Prelude.{◌≡◌, Some};
+ghost use Rattle.script.specs.Tokens.{message_of, digits_in, value_of, word_in};
 
 use crate::digit::hex_value;
+use std::error::Error;
+use std::fmt;
 
 // Why a token writes no word: the first of these that is met from left to right.
-#[derive(Clone, Copy, PartialEq, Debug)]
+#[derive(Clone, Copy, PartialEq, Eq, Debug)]
 pub enum Reason {
     NotHexadecimal,
     NoDigit,
@@ -25,24 +27,26 @@ impl Reason {
     }
 }
 
+impl fmt::Display for Reason {
+    ghost output = { λ reason. Some (message_of reason) };
+
+    fn fmt<W: fmt::Write>(&self, f: &mut fmt::Formatter<W>) -> fmt::Result {
+        write!(f, "{}", self.message())
+    }
+}
+
+impl Error for Reason {}
+
 // A word has at most so many digits.
 const MOST_DIGITS: usize = 8;
-
-// The two bytes that may stand before the digits.
-fn is_prefix(first: u8, second: u8) -> bool
-    ensures { result ≡ is_prefix first second }
-{
-    first == b'0' && (second == b'x' || second == b'X')
-}
 
 // What follows 0x or 0X, or the whole token.
 fn digits_in(token: &[u8]) -> &[u8]
     ensures { result.now ≡ digits_in token.now }
 {
-    if token.len() >= 2 && is_prefix(token[0], token[1]) {
-        &token[2..]
-    } else {
-        token
+    match token {
+        [b'0', b'x' | b'X', digits @ ..] => digits,
+        _ => token,
     }
 }
 
@@ -50,14 +54,12 @@ fn digits_in(token: &[u8]) -> &[u8]
 fn value_of(digits: &[u8]) -> Result<u32, Reason>
     ensures { result ≡ value_of digits.now }
 {
-    if digits.len() == 0 {
+    if digits.is_empty() {
         return Err(Reason::NoDigit);
     }
-    let mut value: u32 = 0;
+    let mut value = 0;
     for (i, byte) in digits.iter().enumerate() {
-        let Some(digit) = hex_value(*byte) else {
-            return Err(Reason::NotHexadecimal);
-        };
+        let digit = hex_value(*byte).ok_or(Reason::NotHexadecimal)?;
         if i >= MOST_DIGITS {
             return Err(Reason::TooLong);
         }

@@ -6,10 +6,12 @@ use Rattle.script.proofs.load.count_words.Given as goal
 
 abbrev pub invariant-loop-count : goal.invariant-loop-count
 invariant-loop-count l =
-    (l.reader.text.now ≡ l.text)
-    × (l.count + length (reading_of (left l.reader)).words ≡ length (reading_of l.text).words)
-    × ((reading_of (left l.reader)).halt ≡ (reading_of l.text).halt)
-    × (l.count + length (left l.reader) ≤ length l.text)
+    record {
+      text : l.reader.text.now ≡ l.text;
+      words : l.count + length (reading_of (left l.reader)).words ≡ length (reading_of l.text).words;
+      halt : (reading_of (left l.reader)).halt ≡ (reading_of l.text).halt;
+      room : l.count + length (left l.reader) ≤ length l.text;
+    }
 
 abbrev pub decreases-loop-count : goal.decreases-loop-count
 decreases-loop-count l = length (left l.reader)

@@ -1,65 +1,41 @@
 -- The end of the text, a word, and a token that cannot be read.
-use Rattle.std.proofs.Common.{◌≡◌, drop, sym, refl, ap, ◌∙◌, arith}
-use Rattle.std.proofs.lemmas.List.{drop_all}
-use Rattle.script.specs.declared.scan.Item.{Item}
-use Rattle.script.specs.declared.scan.Item.TheVariants.{Word, Bad}
-use Rattle.script.specs.Lines.{position_of}
-use Rattle.script.specs.Readings.{word, stuck, next_in, left_after, step_by}
-use Rattle.script.specs.Answers.{left, item_of}
-use Rattle.script.proofs.Turns.{next_none, next_token, token_ends, place_of}
-use Rattle.script.proofs.Taken.{impossible, word_shortens}
+use Rattle.std.proofs.Common.{◌≡◌, Ok, Err, take, drop, sym, refl, ap, ◌∙◌, arith, rules}
+use Rattle.std.proofs.lemmas.Result.{err_from_is_err_and, MatchResult-weaker}
+use Rattle.script.specs.Tokens.{word_in}
+use Rattle.script.specs.Readings.{word, next_in, left_after}
+use Rattle.script.specs.Answers.{left, fault_at, item_of}
+use Rattle.script.proofs.Turns.{next_none, next_token, told}
+use Rattle.script.proofs.Taken.{word_shortens}
 use Rattle.script.proofs.scan.Reader.next.Goals as goal
 
-pub returns-then-start-self : goal.returns-then-start-self
-returns-then-start-self c =
-    let s = c.args.self.now in
-    let text = s.text.now in
-    let start = c.skip-start.result in
-    let e = next_none (left s) text start c.skip-start.ensures (omega arith) in
-    record {
-      item = sym (ap (item_of text) e);
-      left = drop_all start text (omega arith) ∙ sym (ap left_after e);
-      text = refl;
-      shorter = λ w h. impossible (cc);
-    }
+pub returns-then-is_empty : goal.returns-then-is_empty
+unfolding next_in
+returns-then-is_empty c =
+    let e = next_none (left c.args.self.now) c.skip-self.result.now c.skip-self.ensures.rest (grind arith) in
+    search rules
 
-pub slice_bounds-word_in-end : goal.slice_bounds-word_in-end
-slice_bounds-word_in-end c =
-    let t = token_ends c.args.self.now.text.now c.skip-start.result (omega arith) in
-    omega arith
+pub returns-in_err-word : goal.returns-in_err-word
+returns-in_err-word c =
+    let text = c.args.self.now.text.now in
+    let here = c.skip-self.result.now in
+    let m = c.map_err.result in
+    let e = next_token (left c.args.self.now) here c.token_len.result c.skip-self.ensures.rest (grind arith) c.token_len.ensures.len in
+    let by_word = MatchResult-weaker c.word_in.result {P' = λ w. m ≡ Ok w} {Q' = λ why. m ≡ Err (fault_at text why here)} c.map_err.ensures.cases (λ w h. h)
+    (λ why h. let q = err_from_is_err_and m h in q.1 ∙ ap Err (let fault = q.2 in search rules))
+    in
+    let found = told text here (drop c.token_len.result here) (word_in (take c.token_len.result here)) m c.in_err-word.field-0.0 _ (rw (c.word_in.ensures, c.split_at.ensures.front) at by_word) c.in_err-word.was e in
+    let p = err_from_is_err_and c.from_residual.result c.from_residual.ensures.1 in
+    rw (p.1, p.2) record { item = found.0; left = found.1; text = refl; shorter = λ w h. absurd (cc) }
 
-pub returns-in-Ok : goal.returns-in-Ok
-returns-in-Ok c =
-    let s = c.args.self.now in
-    let text = s.text.now in
-    let start = c.skip-start.result in
-    let end = c.token_end-end.result in
-    let w = c.in-Ok.word in
-    let e : next_in (left s) ≡ word w (drop end text) =
-    next_token (left s) text start end c.skip-start.ensures (omega arith) c.token_end-end.ensures
-    ∙ ap (λ r. step_by r (drop start text) (drop end text)) (sym c.in-Ok.ensures) in
-    let found : Word w ≡ item_of text (next_in (left s)) = sym (ap (item_of text) e) in
+pub returns : goal.returns
+returns c =
+    let text = c.args.self.now.text.now in
+    let e : next_in (left c.args.self.now) ≡ word c.in_ok-word.word c.split_at.result.1.now =
+    next_token (left c.args.self.now) c.skip-self.result.now c.token_len.result c.skip-self.ensures.rest (grind arith) c.token_len.ensures.len ∙ search rules in
+    let item = sym (ap (item_of text) e) in
     record {
-      item = found;
+      item = item;
       left = sym (ap left_after e);
       text = refl;
-      shorter = λ v h. rw (ap left_after e) at (word_shortens text (left s) w found);
-    }
-
-pub returns-in-Err : goal.returns-in-Err
-returns-in-Err c =
-    let s = c.args.self.now in
-    let text = s.text.now in
-    let start = c.skip-start.result in
-    let end = c.token_end-end.result in
-    let why = c.in-Err.reason in
-    let e : next_in (left s) ≡ stuck why (drop start text) =
-    next_token (left s) text start end c.skip-start.ensures (omega arith) c.token_end-end.ensures
-    ∙ ap (λ r. step_by r (drop start text) (drop end text)) (sym c.in-Err.ensures) in
-    let place = c.of.ensures ∙ ap (position_of text) (sym (place_of text start (omega arith))) in
-    record {
-      item = ap {B = Item} (λ p. Bad (record { place = p; reason = why })) place ∙ sym (ap (item_of text) e);
-      left = sym (ap left_after e);
-      text = refl;
-      shorter = λ w h. impossible (cc);
+      shorter = λ w h. rw (ap left_after e) at (word_shortens text (left c.args.self.now) c.in_ok-word.word item);
     }
