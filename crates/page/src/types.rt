@@ -1,7 +1,7 @@
 // The types of a page script: a word, the values that its fields hold, and why a word is refused.
 
 // What a word is about: its number stands in the top four bits.
-#[derive(Clone, Copy)]
+#[derive(Clone, Copy, PartialEq, Eq, PartialOrd, Ord, Debug)]
 pub enum Kind {
     Page,
     Close,
@@ -19,7 +19,7 @@ pub enum Kind {
 }
 
 // The type of a structure element. The names are those of the file format.
-#[derive(Clone, Copy)]
+#[derive(Clone, Copy, PartialEq, Eq, Debug)]
 pub enum ElementType {
     Document,
     Part,
@@ -34,7 +34,7 @@ pub enum ElementType {
 }
 
 // What ends a path: it is stroked, closed and stroked, filled, or only ended.
-#[derive(Clone, Copy)]
+#[derive(Clone, Copy, PartialEq, Eq, Debug)]
 pub enum PaintOperator {
     Stroke,
     CloseAndStroke,
@@ -43,7 +43,7 @@ pub enum PaintOperator {
 }
 
 // The codes that a word shows: one to three.
-#[derive(Clone, Copy)]
+#[derive(Clone, Copy, PartialEq, Eq, Debug)]
 pub enum Codes {
     One(u8),
     Two(u8, u8),
@@ -51,7 +51,7 @@ pub enum Codes {
 }
 
 // A word of a page script. Lengths and places are in points.
-#[derive(Clone, Copy)]
+#[derive(Clone, Copy, PartialEq, Eq, Debug)]
 pub enum Word {
     // Opens a page of this size.
     Page { width: u16, height: u16 },
@@ -83,7 +83,7 @@ pub enum Word {
 
 // Why a word is refused, with the refusal's number: there is no such kind, or the payload is
 // outside the kind's range.
-#[derive(Clone, Copy)]
+#[derive(Clone, Copy, PartialEq, Eq, Debug)]
 pub enum Refusal {
     Kind = 10,
     Payload = 11,
