@@ -3,15 +3,17 @@ use Rattle.std.proofs.Common.{◌≡◌, ℕ, ◌^◌, ◌<◌, Bool, true, fals
 use Rattle.std.proofs.lemmas.Bool.Decides.{nat_tests}
 use Rattle.std.proofs.lemmas.Int.{ints}
 use Rattle.std.proofs.lemmas.Bool.{and_parts}
+use Rattle.std.specs.Option.{ok_or}
 use Rattle.page.specs.declared.types.Kind.{Kind}
 use Rattle.page.specs.declared.types.Kind.TheVariants as kind
 use Rattle.page.specs.declared.types.Codes.{Codes}
 use Rattle.page.specs.declared.types.Codes.TheVariants.{One, Two, Three}
 use Rattle.page.specs.declared.types.Word.{Word}
 use Rattle.page.specs.declared.types.Word.TheVariants.{Page, Close, Element, Mark, Save, Origin, Turn, Pen, Line, Paint, Text, Place, Show}
-use Rattle.page.specs.Numbers.{provided, kind_at, kind_number}
+use Rattle.page.specs.declared.types.Refusal.TheVariants as refusal
+use Rattle.page.specs.Numbers.{provided, kind_at, kind_number, word_kind}
 use Rattle.page.specs.Fields.{kind_of, unsigned_a, unsigned_b, signed_a, signed_b, signed, bits_of, is_signed, joined, fields, shown, show_count, first_byte, second_byte, third_byte}
-use Rattle.page.specs.Decoded.{codes_of, show_of, word_of, or_payload, decoded_as, decoded}
+use Rattle.page.specs.Decoded.{codes_of, show_of, word_of, decoded_as, decoded}
 use Rattle.page.proofs.Tables.{kind_at_number}
 use Rattle.page.specs.Encoded.{encoded, signed_fields}
 
@@ -60,6 +62,22 @@ encoded_back kind.Text n w k e = grind (arith, nat_tests)
 encoded_back kind.Place n w k e = cc (signed_back kind.Place n k)
 encoded_back kind.Show n w k e = grind (arith, nat_tests)
 
+-- what is read at a kind is a word of that kind
+pub read_kind : (k : Kind) (n : ℕ) (w : Word) → word_of k n ≡ Some w → word_kind w ≡ k
+read_kind kind.Page n w e = grind (arith, nat_tests)
+read_kind kind.Close n w e = grind (arith, nat_tests)
+read_kind kind.Element n w e = grind (arith, nat_tests)
+read_kind kind.Mark n w e = grind (arith, nat_tests)
+read_kind kind.Save n w e = grind (arith, nat_tests)
+read_kind kind.Origin n w e = grind (arith, nat_tests)
+read_kind kind.Turn n w e = grind (arith, nat_tests)
+read_kind kind.Pen n w e = grind (arith, nat_tests)
+read_kind kind.Line n w e = grind (arith, nat_tests)
+read_kind kind.Paint n w e = grind (arith, nat_tests)
+read_kind kind.Text n w e = grind (arith, nat_tests)
+read_kind kind.Place n w e = grind (arith, nat_tests)
+read_kind kind.Show n w e = grind (arith, nat_tests)
+
 -- two signed fields, put together and read again
 signed_parts : (k : Kind) (a b : ℤ) (n : ℕ) → signed_fields k a b ≡ Some n → (kind_of n ≡ kind_number k) × (signed_a n ≡ a) × (signed_b n ≡ b)
 signed_parts k a b n e =
@@ -75,7 +93,7 @@ signed_parts k a b n e =
 -- what is read at the kind of n is what n says
 decoded_from : (k : Kind) (n : ℕ) (w : Word) → kind_of n ≡ kind_number k → word_of k n ≡ Some w → decoded n ≡ Ok w
 decoded_from k n w e r =
-    ap (λ m. decoded_as (kind_at m) n) e ∙ ap (λ o. decoded_as o n) (kind_at_number k) ∙ ap or_payload r
+    ap (λ m. decoded_as (kind_at m) n) e ∙ ap (λ o. decoded_as o n) (kind_at_number k) ∙ ap (λ o. ok_or o refusal.Payload) r
 
 -- a count and three bytes, put together and read again
 shown_back : (n count x y z : ℕ) (codes : Codes) → joined kind.Show (shown count x y z) ≡ n → (count < 2 ^ 4) × (x < 2 ^ 8) × (y < 2 ^ 8) × (z < 2 ^ 8) → codes_of count x y z ≡ Some codes → decoded n ≡ Ok (Show codes)

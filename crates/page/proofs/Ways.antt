@@ -1,28 +1,30 @@
 -- The laws of decoding, by the three ways that it can go, and what cannot be encoded.
-use Rattle.std.proofs.Common.{◌≡◌, ℕ, ◌<◌, ◌≤◌, Some, None, Ok, Err, Option, sym, refl, ap, ◌∙◌, ⊎_elim, arith}
+use Rattle.std.proofs.Common.{◌≡◌, ℕ, ◌<◌, ◌≤◌, Some, None, Ok, Err, Option, Result, sym, refl, ap, ◌∙◌, subst, ⊎_elim, arith}
 use Rattle.std.proofs.lemmas.Bool.{cases_lt}
+use Rattle.std.specs.Option.{ok_or}
 use Rattle.page.specs.declared.types.Kind.{Kind}
 use Rattle.page.specs.declared.types.Word.{Word}
+use Rattle.page.specs.declared.types.Refusal.{Refusal}
 use Rattle.page.specs.declared.types.Refusal.TheVariants as refusal
-use Rattle.page.specs.Numbers.{highest_kind, kind_number, kind_numbered}
+use Rattle.page.specs.Numbers.{highest_kind, kind_number, kind_numbered, word_kind}
 use Rattle.page.specs.Fields.{kind_of, payload_of}
-use Rattle.page.specs.Decoded.{word_of, or_payload, decoded_as, decoded}
+use Rattle.page.specs.Decoded.{word_of, decoded_as, decoded}
 use Rattle.page.specs.Encoded.{encoded}
-use Rattle.page.specs.Laws.{DecodeUndone, EncodeRefused, InRange, Refusals}
+use Rattle.page.specs.Laws.{DecodeUndone, KindRead, EncodeRefused, InRange, Refusals}
 use Rattle.page.proofs.Tables.{number_kind_numbered, kind_at_low, kind_at_high}
-use Rattle.page.proofs.Undone.{decoded_back, encoded_back}
+use Rattle.page.proofs.Undone.{decoded_back, encoded_back, read_kind}
 use Rattle.page.proofs.Refused.{in_range, read_in_range}
 
 -- The ways that n can be decoded: its kind is too high, its payload is out of range, or it says a word.
 data Way (n : ℕ) : Type 0 where
   no_kind : highest_kind < kind_of n → decoded n ≡ Err refusal.Kind → Way n
-  no_payload : kind_of n ≤ highest_kind → (InRange (kind_of n) (payload_of n) → ⊥) → decoded n ≡ Err refusal.Payload → Way n
-  says : (w : Word) → kind_of n ≤ highest_kind → InRange (kind_of n) (payload_of n) → encoded w ≡ Some n → decoded n ≡ Ok w → Way n
+  no_payload : kind_of n ≤ highest_kind → (¬ InRange (kind_of n) (payload_of n)) → decoded n ≡ Err refusal.Payload → Way n
+  says : (w : Word) → kind_of n ≤ highest_kind → InRange (kind_of n) (payload_of n) → encoded w ≡ Some n → kind_of n ≡ kind_number (word_kind w) → decoded n ≡ Ok w → Way n
 
 -- the way of a kind, by what is read at it
-way_read : (k : Kind) (n : ℕ) → kind_of n ≤ highest_kind → kind_of n ≡ kind_number k → decoded n ≡ or_payload (word_of k n) → (o : Option Word) → word_of k n ≡ o → Way n
-way_read k n low e d None r = no_payload low (λ h. read_in_range k n e h r) (d ∙ ap or_payload r)
-way_read k n low e d (Some w) r = says w low (in_range k n w e r) (encoded_back k n w e r) (d ∙ ap or_payload r)
+way_read : (k : Kind) (n : ℕ) → kind_of n ≤ highest_kind → kind_of n ≡ kind_number k → decoded n ≡ ok_or (word_of k n) refusal.Payload → (o : Option Word) → word_of k n ≡ o → Way n
+way_read k n low e d None r = no_payload low (λ h. read_in_range k n e h r) (d ∙ ap (λ o. ok_or o refusal.Payload) r)
+way_read k n low e d (Some w) r = says w low (in_range k n w e r) (encoded_back k n w e r) (e ∙ ap kind_number (sym (read_kind k n w r))) (d ∙ ap (λ o. ok_or o refusal.Payload) r)
 
 way : (n : ℕ) → Way n
 way n =
@@ -37,7 +39,7 @@ way n =
 undone_by : (n : ℕ) → Way n → DecodeUndone n (decoded n)
 undone_by n (no_kind high d) w e = cc
 undone_by n (no_payload low out d) w e = cc
-undone_by n (says v low within b d) w e = cc
+undone_by n (says v low within b kind d) w e = cc
 
 refusals_by : (n : ℕ) → Way n → Refusals n (decoded n)
 refusals_by n (no_kind high d) =
@@ -47,18 +49,27 @@ refusals_by n (no_kind high d) =
     }
 refusals_by n (no_payload low out d) =
     record { by_kind = (λ e. let z : ◌≡◌ {A = ℕ} 0 1 = cc in omega arith, λ h. absurd (omega arith)); by_payload = (λ _. (low, out), λ _. d) }
-refusals_by n (says v low within b d) =
+refusals_by n (says v low within b kind d) =
     record { by_kind = (λ e. let z : ◌≡◌ {A = ℕ} 0 1 = cc in omega arith, λ h. absurd (omega arith)); by_payload = (λ e. let z : ◌≡◌ {A = ℕ} 0 1 = cc in absurd (omega arith), λ h. absurd (h.1 within)) }
 
+kind_by : (n : ℕ) → Way n → KindRead n (decoded n)
+kind_by n (no_kind high d) w e = cc
+kind_by n (no_payload low out d) w e = cc
+kind_by n (says v low within b kind d) w e = cc
+
 -- where decoding answers a word, the word's bits are those that were decoded
-pub decode_undone : (n : ℕ) → DecodeUndone n (decoded n)
-decode_undone n = undone_by n (way n)
+pub decode_undone : (n : ℕ) (answer : Result Word Refusal) → answer ≡ decoded n → DecodeUndone n answer
+decode_undone n answer same = subst (λ r. DecodeUndone n r) (sym same) (undone_by n (way n))
+
+-- and the word's kind is theirs
+pub kind_read : (n : ℕ) (answer : Result Word Refusal) → answer ≡ decoded n → KindRead n answer
+kind_read n answer same = subst (λ r. KindRead n r) (sym same) (kind_by n (way n))
 
 -- what decoding refuses
-pub refusals : (n : ℕ) → Refusals n (decoded n)
-refusals n = refusals_by n (way n)
+pub refusals : (n : ℕ) (answer : Result Word Refusal) → answer ≡ decoded n → Refusals n answer
+refusals n answer same = subst (λ r. Refusals n r) (sym same) (refusals_by n (way n))
 
 -- a word has no bits exactly if no bits say it
 pub encode_refused : (w : Word) (o : Option ℕ) → o ≡ encoded w → EncodeRefused w o
-encode_refused w None e = (λ _ n d. let b = decode_undone n w d in let z : ◌≡◌ {A = ℕ} 0 1 = cc in omega arith, λ _. refl)
+encode_refused w None e = (λ _ n d. let b = decode_undone n (decoded n) refl w d in let z : ◌≡◌ {A = ℕ} 0 1 = cc in omega arith, λ _. refl)
 encode_refused w (Some n) e = (λ none. let z : ◌≡◌ {A = ℕ} 0 1 = cc in absurd (omega arith), λ no_bits. absurd (no_bits n (decoded_back w n (sym e))))

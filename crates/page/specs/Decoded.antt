@@ -1,5 +1,6 @@
 -- What 32 bits say: a word, or why they are refused.
-use Rattle.std.specs.Prelude.{ℕ, cond, ◌&&◌, Some, None, Ok, Err, Option, Result, ◌==◌}
+use Rattle.std.specs.Prelude.{ℕ, cond, ◌&&◌, Some, None, Err, Option, Result, ◌==◌}
+use Rattle.std.specs.Option.{ok_or}
 use Rattle.page.specs.declared.types.Kind.{Kind}
 use Rattle.page.specs.declared.types.Kind.TheVariants as kind
 use Rattle.page.specs.declared.types.ElementType.{ElementType}
@@ -68,15 +69,10 @@ word_of kind.Text n = text_of (payload_of n)
 word_of kind.Place n = Some (Place (signed_a n) (signed_b n))
 word_of kind.Show n = show_of (codes_of (show_count n) (first_byte n) (second_byte n) (third_byte n))
 
--- A word, or the refusal of its payload.
-abbrev pub or_payload : Option Word → Result Word Refusal
-or_payload None = Err refusal.Payload
-or_payload (Some word) = Ok word
-
 -- What n says if its kind is this, or if it has none.
 abbrev pub decoded_as : Option Kind → ℕ → Result Word Refusal
 decoded_as None n = Err refusal.Kind
-decoded_as (Some k) n = or_payload (word_of k n)
+decoded_as (Some k) n = ok_or (word_of k n) refusal.Payload
 
 -- What n says.
 abbrev pub decoded : ℕ → Result Word Refusal

@@ -3,18 +3,18 @@ use Rattle.std.specs.Prelude.{◌≡◌, ℕ, ◌<◌, ◌≤◌, ◌↔◌, Som
 use Rattle.page.specs.declared.types.Word.{Word}
 use Rattle.page.specs.declared.types.Refusal.{Refusal}
 use Rattle.page.specs.declared.types.Refusal.TheVariants.{Kind, Payload}
-use Rattle.page.specs.Numbers.{highest_kind, highest_type}
+use Rattle.page.specs.Numbers.{highest_kind, highest_type, kind_number, word_kind}
 use Rattle.page.specs.Fields.{kind_of, payload_of, unsigned_a, unsigned_b, show_count, first_byte, second_byte, third_byte}
 use Rattle.page.specs.Decoded.{decoded}
 use Rattle.page.specs.Encoded.{encoded}
 
--- A case was found by the number n exactly if n is its number.
-abbrev pub FoundBy : {X : Type 0} → (X → ℕ) → ℕ → Option X → Type 0
-FoundBy {X} number n answer = (x : X) → (answer ≡ Some x) ↔ (number x ≡ n)
-
 -- Whatever word the bits n were answered to be, n are that word's bits.
 abbrev pub DecodeUndone : ℕ → Result Word Refusal → Type 0
 DecodeUndone n answer = (w : Word) → answer ≡ Ok w → encoded w ≡ Some n
+
+-- Whatever word the bits n were answered to be, its kind is the kind of n.
+abbrev pub KindRead : ℕ → Result Word Refusal → Type 0
+KindRead n answer = (w : Word) → answer ≡ Ok w → kind_of n ≡ kind_number (word_kind w)
 
 -- Whatever bits were answered for the word w, they say w.
 abbrev pub EncodeUndone : Word → Option ℕ → Type 0
@@ -51,4 +51,4 @@ pub record InRange (kind payload : ℕ) : Type 0 where
 -- the kind is not above it and the payload is not in that kind's range.
 pub record Refusals (n : ℕ) (answer : Result Word Refusal) : Type 0 where
   pub by_kind : (answer ≡ Err Kind) ↔ (highest_kind < kind_of n)
-  pub by_payload : (answer ≡ Err Payload) ↔ ((kind_of n ≤ highest_kind) × (InRange (kind_of n) (payload_of n) → ⊥))
+  pub by_payload : (answer ≡ Err Payload) ↔ ((kind_of n ≤ highest_kind) × (¬ InRange (kind_of n) (payload_of n)))

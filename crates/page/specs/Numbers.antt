@@ -1,5 +1,6 @@
 -- The numbers, names and letters of kinds, element types, paint operators, codes and refusals.
-use Rattle.std.specs.Prelude.{ℕ, Bool, cond, List, Some, None, codes, Option, ◌==◌, nat_le}
+use Rattle.std.specs.Prelude.{ℕ, ◌≡◌, ◌↔◌, Bool, cond, List, Some, None, Ok, codes, Option, Result, ◌==◌, nat_le}
+use Rattle.std.specs.Option.{ok_or}
 use Rattle.page.specs.declared.types.Kind.{Kind}
 use Rattle.page.specs.declared.types.Kind.TheVariants.{Page, Close, Element, Mark, Save, Origin, Turn, Pen, Line, Paint, Text, Place, Show}
 use Rattle.page.specs.declared.types.ElementType.{ElementType}
@@ -8,6 +9,8 @@ use Rattle.page.specs.declared.types.PaintOperator.{PaintOperator}
 use Rattle.page.specs.declared.types.PaintOperator.TheVariants.{Stroke, CloseAndStroke, Fill, End}
 use Rattle.page.specs.declared.types.Codes.{Codes}
 use Rattle.page.specs.declared.types.Codes.TheVariants.{One, Two, Three}
+use Rattle.page.specs.declared.types.Word.{Word}
+use Rattle.page.specs.declared.types.Word.TheVariants as word
 use Rattle.page.specs.declared.types.Refusal.{Refusal}
 use Rattle.page.specs.declared.types.Refusal.TheVariants as refusal
 
@@ -34,6 +37,38 @@ kind_number Paint = 9
 kind_number Text = 10
 kind_number Place = 11
 kind_number Show = 12
+
+-- What a kind is called in print.
+abbrev pub kind_name : Kind → List ℕ
+kind_name Page = codes "page"
+kind_name Close = codes "close"
+kind_name Element = codes "element"
+kind_name Mark = codes "mark"
+kind_name Save = codes "save"
+kind_name Origin = codes "origin"
+kind_name Turn = codes "turn"
+kind_name Pen = codes "pen"
+kind_name Line = codes "line"
+kind_name Paint = codes "paint"
+kind_name Text = codes "text"
+kind_name Place = codes "place"
+kind_name Show = codes "show"
+
+-- The kind of a word.
+abbrev pub word_kind : Word → Kind
+word_kind (word.Page width height) = Page
+word_kind word.Close = Close
+word_kind (word.Element parent role) = Element
+word_kind (word.Mark element) = Mark
+word_kind word.Save = Save
+word_kind (word.Origin a b) = Origin
+word_kind (word.Turn quarters) = Turn
+word_kind (word.Pen a b) = Pen
+word_kind (word.Line a b) = Line
+word_kind (word.Paint operator) = Paint
+word_kind (word.Text size) = Text
+word_kind (word.Place a b) = Place
+word_kind (word.Show shown) = Show
 
 -- The kind of a number up to the highest.
 abbrev pub kind_numbered : ℕ → Kind
@@ -137,3 +172,17 @@ count_of (Three x y z) = 3
 abbrev pub number_of : Refusal → ℕ
 number_of refusal.Kind = 10
 number_of refusal.Payload = 11
+
+-- Why a word is refused, in print.
+abbrev pub reason_of : Refusal → List ℕ
+reason_of refusal.Kind = codes "no such kind"
+reason_of refusal.Payload = codes "payload outside its range"
+
+-- A case was found by the number n exactly if n is its number.
+abbrev pub FoundBy : {X : Type 0} → (X → ℕ) → ℕ → Result X Refusal → Type 0
+FoundBy {X} number n answer = (x : X) → (answer ≡ Ok x) ↔ (number x ≡ n)
+
+-- The case at the number n, found by its own number; or the refusal `why`, where there is none.
+pub record IsCaseAt {X : Type 0} (case_at : ℕ → Option X) (number : X → ℕ) (why : Refusal) (n : ℕ) (answer : Result X Refusal) : Type 0 where
+  pub value : answer ≡ ok_or (case_at n) why
+  pub found : FoundBy number n answer

@@ -1,8 +1,9 @@
 // From 32 bits to a word.
 ghost use Rattle.page.specs.Decoded.{bare_of, codes_of, decoded, element_of, page_of, paint_of, show_of, text_of, turn_of, word_of};
 ghost use Rattle.page.specs.Fields.{first_byte, second_byte, show_count, third_byte};
-ghost use Rattle.page.specs.Laws.{DecodeUndone, Refusals};
-ghost use Rattle.page.specs.Numbers.{operator_at, type_at};
+ghost use Rattle.page.specs.Laws.{DecodeUndone, KindRead, Refusals};
+ghost use Rattle.page.specs.Numbers.{operator_at, provided, type_at};
+ghost use Rattle.std.specs.Option.{ok_or};
 ghost use Rattle.std.specs.Prelude.{◌≡◌};
 
 use crate::fields::{
@@ -15,17 +16,16 @@ use crate::types::{Codes, ElementType, Kind, PaintOperator, Refusal, Word};
 pub fn decode(word: u32) -> Result<Word, Refusal>
     ensures value { result ≡ decoded word }
     ensures undone { DecodeUndone word result }
+    ensures kind { KindRead word result }
     ensures refusals { Refusals word result }
 {
-    match Kind::from_number(kind_number(word)) {
-        Some(kind) => read(kind, word).ok_or(Refusal::Payload),
-        None => Err(Refusal::Kind),
-    }
+    let kind = Kind::try_from(kind_number(word))?;
+    read(kind, word)
 }
 
 // The word of a kind, if its payload is in the kind's range.
-fn read(kind: Kind, word: u32) -> Option<Word>
-    ensures { result ≡ word_of kind word }
+fn read(kind: Kind, word: u32) -> Result<Word, Refusal>
+    ensures { result ≡ ok_or (word_of kind word) Refusal.Payload }
 {
     let a = signed_a(word);
     let b = signed_b(word);
@@ -33,96 +33,100 @@ fn read(kind: Kind, word: u32) -> Option<Word>
         Kind::Page => page(unsigned_a(word), unsigned_b(word)),
         Kind::Close => bare(Word::Close, payload(word)),
         Kind::Element => element(unsigned_a(word), unsigned_b(word)),
-        Kind::Mark => Some(Word::Mark {
+        Kind::Mark => Ok(Word::Mark {
             element: payload(word),
         }),
         Kind::Save => bare(Word::Save, payload(word)),
-        Kind::Origin => Some(Word::Origin { a, b }),
+        Kind::Origin => Ok(Word::Origin { a, b }),
         Kind::Turn => turn(payload(word)),
-        Kind::Pen => Some(Word::Pen { a, b }),
-        Kind::Line => Some(Word::Line { a, b }),
+        Kind::Pen => Ok(Word::Pen { a, b }),
+        Kind::Line => Ok(Word::Line { a, b }),
         Kind::Paint => paint(payload(word)),
         Kind::Text => text(payload(word)),
-        Kind::Place => Some(Word::Place { a, b }),
+        Kind::Place => Ok(Word::Place { a, b }),
         Kind::Show => show(word),
     }
 }
 
-// A page of two sides.
-fn page(width: u16, height: u16) -> Option<Word>
-    ensures { result ≡ page_of width height }
+// A word, provided that its payload is in its kind's range.
+fn in_range(holds: bool, word: Word) -> Result<Word, Refusal>
+    ensures { result ≡ ok_or (provided holds word) Refusal.Payload }
 {
-    if is_side(width) && is_side(height) {
-        Some(Word::Page { width, height })
-    } else {
-        None
-    }
+    holds.then_some(word).ok_or(Refusal::Payload)
+}
+
+// A page of two sides.
+fn page(width: u16, height: u16) -> Result<Word, Refusal>
+    ensures { result ≡ ok_or (page_of width height) Refusal.Payload }
+{
+    in_range(
+        is_side(width) && is_side(height),
+        Word::Page { width, height },
+    )
 }
 
 // A word that has no payload.
-fn bare(word: Word, payload: u32) -> Option<Word>
-    ensures { result ≡ bare_of word payload }
+fn bare(word: Word, payload: u32) -> Result<Word, Refusal>
+    ensures { result ≡ ok_or (bare_of word payload) Refusal.Payload }
 {
-    if payload == 0 { Some(word) } else { None }
+    in_range(payload == 0, word)
 }
 
 // An element, if there is such a type.
-fn element(parent: u16, number: u16) -> Option<Word>
-    ensures { result ≡ element_of parent (type_at number) }
+fn element(parent: u16, number: u16) -> Result<Word, Refusal>
+    ensures { result ≡ ok_or (element_of parent (type_at number)) Refusal.Payload }
 {
-    let role = ElementType::from_number(number)?;
-    Some(Word::Element { parent, role })
+    let role = ElementType::try_from(number)?;
+    Ok(Word::Element { parent, role })
 }
 
 // A turn by quarters.
-fn turn(quarters: u32) -> Option<Word>
-    ensures { result ≡ turn_of quarters }
+fn turn(quarters: u32) -> Result<Word, Refusal>
+    ensures { result ≡ ok_or (turn_of quarters) Refusal.Payload }
 {
-    if is_turn(quarters) {
-        Some(Word::Turn {
-            quarters: quarters as u8,
-        })
-    } else {
-        None
+    if !is_turn(quarters) {
+        return Err(Refusal::Payload);
     }
+    Ok(Word::Turn {
+        quarters: quarters as u8,
+    })
 }
 
 // A paint word, if there is such an operator.
-fn paint(number: u32) -> Option<Word>
-    ensures { result ≡ paint_of (operator_at number) }
+fn paint(number: u32) -> Result<Word, Refusal>
+    ensures { result ≡ ok_or (paint_of (operator_at number)) Refusal.Payload }
 {
-    let operator = PaintOperator::from_number(number)?;
-    Some(Word::Paint { operator })
+    let operator = PaintOperator::try_from(number)?;
+    Ok(Word::Paint { operator })
 }
 
 // Text of a size.
-fn text(size: u32) -> Option<Word>
-    ensures { result ≡ text_of size }
+fn text(size: u32) -> Result<Word, Refusal>
+    ensures { result ≡ ok_or (text_of size) Refusal.Payload }
 {
-    if is_size(size) {
-        Some(Word::Text { size: size as u8 })
-    } else {
-        None
+    if !is_size(size) {
+        return Err(Refusal::Payload);
     }
+    Ok(Word::Text { size: size as u8 })
 }
 
 // A show word, if its bytes are codes.
-fn show(word: u32) -> Option<Word>
-    ensures { result ≡ show_of (codes_of (show_count word) (first_byte word) (second_byte word) (third_byte word)) }
+fn show(word: u32) -> Result<Word, Refusal>
+    ensures { result ≡ ok_or (show_of (codes_of (show_count word) (first_byte word) (second_byte word) (third_byte word))) Refusal.Payload }
 {
     let (x, y, z) = show_bytes(word);
     let codes = codes(show_count(word), x, y, z)?;
-    Some(Word::Show { codes })
+    Ok(Word::Show { codes })
 }
 
 // The first `count` of three bytes, if they are codes and the other bytes are 0.
-fn codes(count: u32, x: u8, y: u8, z: u8) -> Option<Codes>
-    ensures { result ≡ codes_of count x y z }
+fn codes(count: u32, x: u8, y: u8, z: u8) -> Result<Codes, Refusal>
+    ensures { result ≡ ok_or (codes_of count x y z) Refusal.Payload }
 {
     match count {
-        1 if is_code(x) && y == 0 && z == 0 => Some(Codes::One(x)),
-        2 if is_code(x) && is_code(y) && z == 0 => Some(Codes::Two(x, y)),
-        3 if is_code(x) && is_code(y) && is_code(z) => Some(Codes::Three(x, y, z)),
-        _ => None,
+        1 if is_code(x) && y == 0 && z == 0 => Ok(Codes::One(x)),
+        2 if is_code(x) && is_code(y) && z == 0 => Ok(Codes::Two(x, y)),
+        3 if is_code(x) && is_code(y) && is_code(z) => Ok(Codes::Three(x, y, z)),
+        _ => Err(Refusal::Payload),
     }
 }

@@ -31,7 +31,7 @@ fn written(word: Word) -> Option<u32>
         Word::Turn { quarters } => turn(u32::from(quarters)),
         Word::Pen { a, b } => signed_fields(Kind::Pen, a, b),
         Word::Line { a, b } => signed_fields(Kind::Line, a, b),
-        Word::Paint { operator } => Some(join(Kind::Paint, operator.number())),
+        Word::Paint { operator } => Some(join(Kind::Paint, operator.into())),
         Word::Text { size } => text(u32::from(size)),
         Word::Place { a, b } => signed_fields(Kind::Place, a, b),
         Word::Show { codes } => show(codes),
@@ -54,7 +54,7 @@ fn element(parent: u16, role: ElementType) -> Option<u32>
     ensures { result ≡ encoded (Word.Element parent role) }
 {
     if parent < 1 << 14 {
-        Some(join(Kind::Element, join_fields(parent, role.number())))
+        Some(join(Kind::Element, join_fields(parent, role.into())))
     } else {
         None
     }

@@ -11,4 +11,4 @@ mod types;
 
 pub use decoding::decode;
 pub use encoding::encode;
-pub use types::{Codes, ElementType, PaintOperator, Refusal, Word};
+pub use types::{Codes, ElementType, Kind, PaintOperator, Refusal, Word};

@@ -1,75 +1,117 @@
 // The numbers, names and letters of kinds, element types, paint operators, codes and refusals.
-ghost use Rattle.page.specs.Laws.{FoundBy};
-ghost use Rattle.page.specs.Numbers.{count_of, kind_at, kind_number, letter_of, name_of, number_of, operator_at, operator_number, type_at, type_number};
-ghost use Rattle.std.specs.Prelude.{◌≡◌};
+ghost use Rattle.page.specs.declared.types.Refusal.{Refusal};
+ghost use Rattle.page.specs.Numbers.{IsCaseAt, count_of, kind_at, kind_name, kind_number, letter_of, name_of, number_of, operator_at, operator_number, reason_of, type_at, type_number, word_kind};
+ghost use Rattle.std.specs.Prelude.{◌≡◌, Some, slice_get};
 
-use crate::types::{Codes, ElementType, Kind, PaintOperator, Refusal};
+use crate::types::{Codes, ElementType, Kind, PaintOperator, Refusal, Word};
+use std::error::Error;
+use std::fmt;
 
-// The highest number of a kind.
-const HIGHEST_KIND: u32 = 12;
+impl TryFrom<u32> for Kind {
+    type Error = Refusal;
 
-// The highest number of an element type.
-const HIGHEST_TYPE: u16 = 9;
+    ghost try_from_gives = { IsCaseAt kind_at kind_number Refusal.Kind };
 
-impl Kind {
     // The kind of this number.
-    pub(crate) fn from_number(number: u32) -> Option<Kind>
-        ensures value { result ≡ kind_at number }
-        ensures found { FoundBy kind_number number result }
-    {
-        if number > HIGHEST_KIND {
-            return None;
+    fn try_from(number: u32) -> Result<Kind, Refusal> {
+        match number {
+            0 => Ok(Kind::Page),
+            1 => Ok(Kind::Close),
+            2 => Ok(Kind::Element),
+            3 => Ok(Kind::Mark),
+            4 => Ok(Kind::Save),
+            5 => Ok(Kind::Origin),
+            6 => Ok(Kind::Turn),
+            7 => Ok(Kind::Pen),
+            8 => Ok(Kind::Line),
+            9 => Ok(Kind::Paint),
+            10 => Ok(Kind::Text),
+            11 => Ok(Kind::Place),
+            12 => Ok(Kind::Show),
+            _ => Err(Refusal::Kind),
         }
-        let kind = match number {
-            0 => Kind::Page,
-            1 => Kind::Close,
-            2 => Kind::Element,
-            3 => Kind::Mark,
-            4 => Kind::Save,
-            5 => Kind::Origin,
-            6 => Kind::Turn,
-            7 => Kind::Pen,
-            8 => Kind::Line,
-            9 => Kind::Paint,
-            10 => Kind::Text,
-            11 => Kind::Place,
-            _ => Kind::Show,
-        };
-        Some(kind)
+    }
+}
+
+impl fmt::Display for Kind {
+    ghost output = { λ kind. Some (kind_name kind) };
+
+    fn fmt<W: fmt::Write>(&self, f: &mut fmt::Formatter<W>) -> fmt::Result {
+        f.write_str(match self {
+            Kind::Page => "page",
+            Kind::Close => "close",
+            Kind::Element => "element",
+            Kind::Mark => "mark",
+            Kind::Save => "save",
+            Kind::Origin => "origin",
+            Kind::Turn => "turn",
+            Kind::Pen => "pen",
+            Kind::Line => "line",
+            Kind::Paint => "paint",
+            Kind::Text => "text",
+            Kind::Place => "place",
+            Kind::Show => "show",
+        })
+    }
+}
+
+impl Word {
+    // What the word is about. Each kind stands in the list of all at its number.
+    pub fn kind(self) -> Kind
+        ensures value { result ≡ word_kind self }
+        ensures listed { slice_get Kind.ALL (kind_number result) ≡ Some result }
+    {
+        match self {
+            Word::Page { .. } => Kind::Page,
+            Word::Close => Kind::Close,
+            Word::Element { .. } => Kind::Element,
+            Word::Mark { .. } => Kind::Mark,
+            Word::Save => Kind::Save,
+            Word::Origin { .. } => Kind::Origin,
+            Word::Turn { .. } => Kind::Turn,
+            Word::Pen { .. } => Kind::Pen,
+            Word::Line { .. } => Kind::Line,
+            Word::Paint { .. } => Kind::Paint,
+            Word::Text { .. } => Kind::Text,
+            Word::Place { .. } => Kind::Place,
+            Word::Show { .. } => Kind::Show,
+        }
+    }
+}
+
+impl TryFrom<u16> for ElementType {
+    type Error = Refusal;
+
+    ghost try_from_gives = { IsCaseAt type_at type_number Refusal.Payload };
+
+    // The type of this number.
+    fn try_from(number: u16) -> Result<ElementType, Refusal> {
+        match number {
+            0 => Ok(ElementType::Document),
+            1 => Ok(ElementType::Part),
+            2 => Ok(ElementType::Sect),
+            3 => Ok(ElementType::P),
+            4 => Ok(ElementType::H1),
+            5 => Ok(ElementType::H2),
+            6 => Ok(ElementType::L),
+            7 => Ok(ElementType::LI),
+            8 => Ok(ElementType::Figure),
+            9 => Ok(ElementType::Caption),
+            _ => Err(Refusal::Payload),
+        }
+    }
+}
+
+impl From<ElementType> for u16 {
+    ghost from_gives = { λ role number. number ≡ type_number role };
+
+    // The type's number in a word.
+    fn from(role: ElementType) -> u16 {
+        role as u16
     }
 }
 
 impl ElementType {
-    // The type's number in a word.
-    pub fn number(self) -> u16
-        ensures { result ≡ type_number self }
-    {
-        self as u16
-    }
-
-    // The type of this number.
-    pub fn from_number(number: u16) -> Option<ElementType>
-        ensures value { result ≡ type_at number }
-        ensures found { FoundBy type_number number result }
-    {
-        if number > HIGHEST_TYPE {
-            return None;
-        }
-        let role = match number {
-            0 => ElementType::Document,
-            1 => ElementType::Part,
-            2 => ElementType::Sect,
-            3 => ElementType::P,
-            4 => ElementType::H1,
-            5 => ElementType::H2,
-            6 => ElementType::L,
-            7 => ElementType::LI,
-            8 => ElementType::Figure,
-            _ => ElementType::Caption,
-        };
-        Some(role)
-    }
-
     // The type's name in a file.
     pub fn name(self) -> &'static str
         ensures { result.now ≡ name_of self }
@@ -89,28 +131,41 @@ impl ElementType {
     }
 }
 
-impl PaintOperator {
-    // The operator's number in a word.
-    pub fn number(self) -> u32
-        ensures { result ≡ operator_number self }
-    {
-        self as u32
+impl fmt::Display for ElementType {
+    ghost output = { λ role. Some (name_of role) };
+
+    fn fmt<W: fmt::Write>(&self, f: &mut fmt::Formatter<W>) -> fmt::Result {
+        f.write_str(self.name())
     }
+}
+
+impl TryFrom<u32> for PaintOperator {
+    type Error = Refusal;
+
+    ghost try_from_gives = { IsCaseAt operator_at operator_number Refusal.Payload };
 
     // The operator of this number.
-    pub fn from_number(number: u32) -> Option<PaintOperator>
-        ensures value { result ≡ operator_at number }
-        ensures found { FoundBy operator_number number result }
-    {
+    fn try_from(number: u32) -> Result<PaintOperator, Refusal> {
         match number {
-            0 => Some(PaintOperator::Stroke),
-            1 => Some(PaintOperator::CloseAndStroke),
-            2 => Some(PaintOperator::Fill),
-            3 => Some(PaintOperator::End),
-            _ => None,
+            0 => Ok(PaintOperator::Stroke),
+            1 => Ok(PaintOperator::CloseAndStroke),
+            2 => Ok(PaintOperator::Fill),
+            3 => Ok(PaintOperator::End),
+            _ => Err(Refusal::Payload),
         }
     }
+}
 
+impl From<PaintOperator> for u32 {
+    ghost from_gives = { λ operator number. number ≡ operator_number operator };
+
+    // The operator's number in a word.
+    fn from(operator: PaintOperator) -> u32 {
+        operator as u32
+    }
+}
+
+impl PaintOperator {
     // The letter that stands for the operator in a page's contents.
     pub fn letter(self) -> u8
         ensures { result ≡ letter_of self }
@@ -137,11 +192,24 @@ impl Codes {
     }
 }
 
-impl Refusal {
+impl From<Refusal> for u8 {
+    ghost from_gives = { λ refusal number. number ≡ number_of refusal };
+
     // The refusal's number.
-    pub fn number(self) -> u8
-        ensures { result ≡ number_of self }
-    {
-        self as u8
+    fn from(refusal: Refusal) -> u8 {
+        refusal as u8
     }
 }
+
+impl fmt::Display for Refusal {
+    ghost output = { λ refusal. Some (reason_of refusal) };
+
+    fn fmt<W: fmt::Write>(&self, f: &mut fmt::Formatter<W>) -> fmt::Result {
+        f.write_str(match self {
+            Refusal::Kind => "no such kind",
+            Refusal::Payload => "payload outside its range",
+        })
+    }
+}
+
+impl Error for Refusal {}

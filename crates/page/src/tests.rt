@@ -123,7 +123,7 @@ fn rows_hold(rt: &impl Abort, rows: &[(u32, Result<Word, u8>)]) -> Result<(), Fa
                 assert!(rt; encode(word) == Some(*bits));
                 assert!(rt; encode(same) == Some(*bits));
             }
-            (Err(refusal), Err(number)) => assert!(rt; refusal.number() == number),
+            (Err(refusal), Err(number)) => assert!(rt; u8::from(refusal) == number),
             _ => return Err(Fail::new("a word is refused, or is not")),
         }
     }

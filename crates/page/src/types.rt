@@ -18,6 +18,25 @@ pub enum Kind {
     Show,
 }
 
+impl Kind {
+    // Every kind, in the order of their numbers.
+    pub const ALL: [Kind; 13] = [
+        Kind::Page,
+        Kind::Close,
+        Kind::Element,
+        Kind::Mark,
+        Kind::Save,
+        Kind::Origin,
+        Kind::Turn,
+        Kind::Pen,
+        Kind::Line,
+        Kind::Paint,
+        Kind::Text,
+        Kind::Place,
+        Kind::Show,
+    ];
+}
+
 // The type of a structure element. The names are those of the file format.
 #[derive(Clone, Copy, PartialEq, Eq, Debug)]
 pub enum ElementType {
