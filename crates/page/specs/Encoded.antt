@@ -1,5 +1,7 @@
 -- The 32 bits of a word, if each of its fields is in range.
 use Rattle.std.specs.Prelude.{ℕ, ◌^◌, ◌&&◌, ℤ, Some, Option, nat_lt}
+use Rattle.std.specs.Option.{option_map}
+use Rattle.page.specs.declared.fields.Payload.{Payload}
 use Rattle.page.specs.declared.types.Kind.{Kind}
 use Rattle.page.specs.declared.types.Kind.TheVariants as kind
 use Rattle.page.specs.declared.types.Codes.{Codes}
@@ -18,6 +20,10 @@ abbrev pub encoded_codes : Codes → Option ℕ
 encoded_codes (One x) = provided (is_code x) (joined kind.Show (shown 1 x 0 0))
 encoded_codes (Two x y) = provided (is_code x && is_code y) (joined kind.Show (shown 2 x y 0))
 encoded_codes (Three x y z) = provided (is_code x && (is_code y && is_code z)) (joined kind.Show (shown 3 x y z))
+
+-- The bits of a kind and a payload, if there is one.
+abbrev pub with_payload : Kind → Option Payload → Option ℕ
+with_payload k payload = option_map (λ p. joined k p.bits) payload
 
 -- The bits of a word.
 abbrev pub encoded : Word → Option ℕ

@@ -7,7 +7,7 @@ ghost use Rattle.std.specs.Option.{ok_or};
 ghost use Rattle.std.specs.Prelude.{◌≡◌};
 
 use crate::fields::{
-    is_code, is_side, is_size, is_turn, kind_number, payload, show_bytes, show_count, signed_a,
+    is_code, is_side, is_size, is_turn, kind_number, payload_bits, show_bytes, show_count, signed_a,
     signed_b, unsigned_a, unsigned_b,
 };
 use crate::types::{Codes, ElementType, Kind, PaintOperator, Refusal, Word};
@@ -31,18 +31,18 @@ fn read(kind: Kind, word: u32) -> Result<Word, Refusal>
     let b = signed_b(word);
     match kind {
         Kind::Page => page(unsigned_a(word), unsigned_b(word)),
-        Kind::Close => bare(Word::Close, payload(word)),
+        Kind::Close => bare(Word::Close, payload_bits(word)),
         Kind::Element => element(unsigned_a(word), unsigned_b(word)),
         Kind::Mark => Ok(Word::Mark {
-            element: payload(word),
+            element: payload_bits(word),
         }),
-        Kind::Save => bare(Word::Save, payload(word)),
+        Kind::Save => bare(Word::Save, payload_bits(word)),
         Kind::Origin => Ok(Word::Origin { a, b }),
-        Kind::Turn => turn(payload(word)),
+        Kind::Turn => turn(payload_bits(word)),
         Kind::Pen => Ok(Word::Pen { a, b }),
         Kind::Line => Ok(Word::Line { a, b }),
-        Kind::Paint => paint(payload(word)),
-        Kind::Text => text(payload(word)),
+        Kind::Paint => paint(payload_bits(word)),
+        Kind::Text => text(payload_bits(word)),
         Kind::Place => Ok(Word::Place { a, b }),
         Kind::Show => show(word),
     }

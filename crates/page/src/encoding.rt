@@ -1,11 +1,10 @@
 // From a word to its 32 bits.
-ghost use Rattle.page.specs.Encoded.{encoded, signed_fields};
+ghost use Rattle.page.specs.Encoded.{encoded, signed_fields, with_payload};
 ghost use Rattle.page.specs.Laws.{EncodeRefused, EncodeUndone};
+ghost use Rattle.page.specs.Numbers.{word_kind};
 ghost use Rattle.std.specs.Prelude.{◌≡◌};
 
-use crate::fields::{
-    is_code, is_side, is_signed, is_size, is_turn, join, join_bytes, join_fields, to_bits,
-};
+use crate::fields::{Payload, is_code, is_side, is_size, is_turn, join, signed_bits};
 use crate::types::{Codes, ElementType, Kind, Word};
 
 // The bits of a word, if each of its fields is in range.
@@ -14,108 +13,83 @@ pub fn encode(word: Word) -> Option<u32>
     ensures undone { EncodeUndone word result }
     ensures refused { EncodeRefused word result }
 {
-    written(word)
+    let payload = payload(word)?;
+    Some(join(word.kind(), payload))
 }
 
-// The bits, kind by kind.
-fn written(word: Word) -> Option<u32>
-    ensures { result ≡ encoded word }
+// The payload of a word, if each of its fields is in range.
+fn payload(word: Word) -> Option<Payload>
+    ensures { with_payload (word_kind word) result ≡ encoded word }
 {
     match word {
         Word::Page { width, height } => page(width, height),
-        Word::Close => Some(join(Kind::Close, 0)),
+        Word::Close | Word::Save => Some(Payload { bits: 0 }),
         Word::Element { parent, role } => element(parent, role),
-        Word::Mark { element } => mark(element),
-        Word::Save => Some(join(Kind::Save, 0)),
-        Word::Origin { a, b } => signed_fields(Kind::Origin, a, b),
+        Word::Mark { element } => Payload::new(element),
+        Word::Origin { a, b } => signed_fields(a, b),
         Word::Turn { quarters } => turn(u32::from(quarters)),
-        Word::Pen { a, b } => signed_fields(Kind::Pen, a, b),
-        Word::Line { a, b } => signed_fields(Kind::Line, a, b),
-        Word::Paint { operator } => Some(join(Kind::Paint, operator.into())),
+        Word::Pen { a, b } => signed_fields(a, b),
+        Word::Line { a, b } => signed_fields(a, b),
+        Word::Paint { operator } => Payload::new(u32::from(operator)),
         Word::Text { size } => text(u32::from(size)),
-        Word::Place { a, b } => signed_fields(Kind::Place, a, b),
+        Word::Place { a, b } => signed_fields(a, b),
         Word::Show { codes } => show(codes),
     }
 }
 
-// The bits of a page.
-fn page(width: u16, height: u16) -> Option<u32>
-    ensures { result ≡ encoded (Word.Page width height) }
+// The payload of a page.
+fn page(width: u16, height: u16) -> Option<Payload>
+    ensures { with_payload Kind.Page result ≡ encoded (Word.Page width height) }
 {
     if is_side(width) && is_side(height) {
-        Some(join(Kind::Page, join_fields(width, height)))
+        Some(Payload::of_fields(width, height))
     } else {
         None
     }
 }
 
-// The bits of an element.
-fn element(parent: u16, role: ElementType) -> Option<u32>
-    ensures { result ≡ encoded (Word.Element parent role) }
+// The payload of an element.
+fn element(parent: u16, role: ElementType) -> Option<Payload>
+    ensures { with_payload Kind.Element result ≡ encoded (Word.Element parent role) }
 {
     if parent < 1 << 14 {
-        Some(join(Kind::Element, join_fields(parent, role.into())))
+        Some(Payload::of_fields(parent, u16::from(role)))
     } else {
         None
     }
 }
 
-// The bits of a mark.
-fn mark(element: u32) -> Option<u32>
-    ensures { result ≡ encoded (Word.Mark element) }
+// The payload of a turn.
+fn turn(quarters: u32) -> Option<Payload>
+    ensures { with_payload Kind.Turn result ≡ encoded (Word.Turn quarters) }
 {
-    if element < 1 << 28 {
-        Some(join(Kind::Mark, element))
-    } else {
-        None
-    }
+    if is_turn(quarters) { Payload::new(quarters) } else { None }
 }
 
-// The bits of a turn.
-fn turn(quarters: u32) -> Option<u32>
-    ensures { result ≡ encoded (Word.Turn quarters) }
+// The payload of a size of text.
+fn text(size: u32) -> Option<Payload>
+    ensures { with_payload Kind.Text result ≡ encoded (Word.Text size) }
 {
-    if is_turn(quarters) {
-        Some(join(Kind::Turn, quarters))
-    } else {
-        None
-    }
+    if is_size(size) { Payload::new(size) } else { None }
 }
 
-// The bits of a size of text.
-fn text(size: u32) -> Option<u32>
-    ensures { result ≡ encoded (Word.Text size) }
+// The payload of two signed fields.
+fn signed_fields(a: i32, b: i32) -> Option<Payload>
+    ensures { (kind : Kind) → with_payload kind result ≡ signed_fields kind a b }
 {
-    if is_size(size) {
-        Some(join(Kind::Text, size))
-    } else {
-        None
-    }
+    Some(Payload::of_fields(signed_bits(a)?, signed_bits(b)?))
 }
 
-// The bits of a kind with two signed fields.
-fn signed_fields(kind: Kind, a: i32, b: i32) -> Option<u32>
-    ensures { result ≡ signed_fields kind a b }
-{
-    if is_signed(a) && is_signed(b) {
-        Some(join(kind, join_fields(to_bits(a), to_bits(b))))
-    } else {
-        None
-    }
-}
-
-// The bits of codes to show.
-fn show(codes: Codes) -> Option<u32>
-    ensures { result ≡ encoded (Word.Show codes) }
+// The payload of codes to show.
+fn show(codes: Codes) -> Option<Payload>
+    ensures { with_payload Kind.Show result ≡ encoded (Word.Show codes) }
 {
     let count = codes.count();
     match codes {
-        Codes::One(x) if is_code(x) => Some(join(Kind::Show, join_bytes(count, x, 0, 0))),
-        Codes::Two(x, y) if is_code(x) && is_code(y) => {
-            Some(join(Kind::Show, join_bytes(count, x, y, 0)))
-        }
+        Codes::One(x) if is_code(x) => Some(Payload::of_bytes(count, x, 0, 0)),
+        Codes::Two(x, y) if is_code(x) && is_code(y) => Some(Payload::of_bytes(count, x, y, 0)),
         Codes::Three(x, y, z) if is_code(x) && is_code(y) && is_code(z) => {
-            Some(join(Kind::Show, join_bytes(count, x, y, z)))
+            Some(Payload::of_bytes(count, x, y, z))
         }
         _ => None,
     }

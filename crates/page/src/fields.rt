@@ -1,5 +1,6 @@
 // The fields of a word of 32 bits, read and put together, and the ranges that they are held to.
-ghost use Rattle.std.specs.Prelude.{◌≡◌, ◌^◌, ◌<◌, true};
+ghost use Rattle.page.specs.Numbers.{provided};
+ghost use Rattle.std.specs.Prelude.{◌≡◌, ◌^◌, ◌<◌, IfSome, nat_lt};
 ghost use Rattle.page.specs.Fields.{bits_of, fields, first_byte, is_code, is_side, is_signed, is_size, is_turn, joined, kind_of, payload_of, second_byte, show_count, shown, signed, signed_a, signed_b, third_byte, unsigned_a, unsigned_b};
 
 use crate::types::Kind;
@@ -24,7 +25,7 @@ pub(crate) fn kind_number(word: u32) -> u32
 }
 
 // The bits below the kind.
-pub(crate) fn payload(word: u32) -> u32
+pub(crate) fn payload_bits(word: u32) -> u32
     ensures { result ≡ payload_of word }
 {
     word % (1 << 28)
@@ -46,7 +47,6 @@ pub(crate) fn unsigned_b(word: u32) -> u16
 
 // What fourteen bits stand for in two's complement.
 fn with_sign(bits: u16) -> i32
-    requires { bits < 2 ^ 14 }
     ensures { result ≡ signed bits }
 {
     let number = i32::from(bits);
@@ -87,49 +87,61 @@ pub(crate) fn show_bytes(word: u32) -> (u8, u8, u8)
     )
 }
 
+// What stands below a word's kind.
+#[derive(Clone, Copy)]
+pub(crate) struct Payload {
+    pub(crate) bits: u32,
+    ghost short: { bits < 2 ^ 28 },
+}
+
+impl Payload {
+    ghost use Rattle.std.specs.Option.{option_map};
+
+    // The payload of these bits, unless they reach into the kind.
+    pub(crate) fn new(bits: u32) -> Option<Payload>
+        ensures { option_map (λ payload. payload.bits) result ≡ provided (nat_lt bits (2 ^ 28)) bits }
+    {
+        if bits < 1 << 28 { Some(Payload { bits }) } else { None }
+    }
+
+    // Field a above field b.
+    pub(crate) fn of_fields(a: u16, b: u16) -> Payload
+        requires a_fits { a < 2 ^ 14 }
+        requires b_fits { b < 2 ^ 14 }
+        ensures { result.bits ≡ fields a b }
+    {
+        Payload {
+            bits: u32::from(a) * (1 << 14) + u32::from(b),
+        }
+    }
+
+    // A count above three bytes.
+    pub(crate) fn of_bytes(count: u32, x: u8, y: u8, z: u8) -> Payload
+        requires { count < 2 ^ 4 }
+        ensures { result.bits ≡ shown count x y z }
+    {
+        Payload {
+            bits: count * (1 << 24) + u32::from(x) * (1 << 16) + u32::from(y) * (1 << 8) + u32::from(z),
+        }
+    }
+}
+
 // A kind above a payload.
-pub(crate) fn join(kind: Kind, payload: u32) -> u32
-    requires { payload < 2 ^ 28 }
-    ensures { result ≡ joined kind payload }
+pub(crate) fn join(kind: Kind, payload: Payload) -> u32
+    ensures { result ≡ joined kind payload.bits }
 {
-    kind as u32 * (1 << 28) + payload
+    kind as u32 * (1 << 28) + payload.bits
 }
 
-// Field a above field b.
-pub(crate) fn join_fields(a: u16, b: u16) -> u32
-    requires { (a < 2 ^ 14) × (b < 2 ^ 14) }
-    ensures value { result ≡ fields a b }
-    ensures short { result < 2 ^ 28 }
+// The fourteen bits of a number in two's complement, if they hold it.
+pub(crate) fn signed_bits(number: i32) -> Option<u16>
+    ensures value { result ≡ provided (is_signed number) (bits_of number) }
+    ensures short { IfSome result (λ bits. bits < 2 ^ 14) }
 {
-    u32::from(a) * (1 << 14) + u32::from(b)
-}
-
-// A count above three bytes.
-pub(crate) fn join_bytes(count: u32, x: u8, y: u8, z: u8) -> u32
-    requires { count < 2 ^ 4 }
-    ensures value { result ≡ shown count x y z }
-    ensures short { result < 2 ^ 28 }
-{
-    count * (1 << 24) + u32::from(x) * (1 << 16) + u32::from(y) * (1 << 8) + u32::from(z)
-}
-
-// Whether fourteen bits hold a number in two's complement.
-pub(crate) fn is_signed(number: i32) -> bool
-    ensures { result ≡ is_signed number }
-{
-    -8192 <= number && number < 8192
-}
-
-// The fourteen bits of a number in two's complement.
-pub(crate) fn to_bits(number: i32) -> u16
-    requires { is_signed number ≡ true }
-    ensures value { result ≡ bits_of number }
-    ensures short { result < 2 ^ 14 }
-{
-    if number < 0 {
-        (number + 16_384) as u16
-    } else {
-        number as u16
+    match number {
+        0..8192 => Some(number as u16),
+        -8192..0 => Some((number + 16_384) as u16),
+        _ => None,
     }
 }
 
