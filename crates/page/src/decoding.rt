@@ -7,8 +7,8 @@ ghost use Rattle.std.specs.Option.{ok_or};
 ghost use Rattle.std.specs.Prelude.{◌≡◌};
 
 use crate::fields::{
-    is_code, is_side, is_size, is_turn, kind_number, payload_bits, show_bytes, show_count, signed_a,
-    signed_b, unsigned_a, unsigned_b,
+    is_code, is_side, is_size, is_turn, kind_number, payload_bits, show_count, signed_a, signed_b,
+    unsigned_a, unsigned_b,
 };
 use crate::types::{Codes, ElementType, Kind, PaintOperator, Refusal, Word};
 
@@ -114,7 +114,7 @@ fn text(size: u32) -> Result<Word, Refusal>
 fn show(word: u32) -> Result<Word, Refusal>
     ensures { result ≡ ok_or (show_of (codes_of (show_count word) (first_byte word) (second_byte word) (third_byte word))) Refusal.Payload }
 {
-    let (x, y, z) = show_bytes(word);
+    let [_, x, y, z] = word.to_be_bytes();
     let codes = codes(show_count(word), x, y, z)?;
     Ok(Word::Show { codes })
 }

@@ -1,7 +1,8 @@
 // From a word to its 32 bits.
 ghost use Rattle.page.specs.Encoded.{encoded, signed_fields, with_payload};
+ghost use Rattle.page.specs.Fields.{joined};
 ghost use Rattle.page.specs.Laws.{EncodeRefused, EncodeUndone};
-ghost use Rattle.page.specs.Numbers.{word_kind};
+ghost use Rattle.page.specs.Numbers.{provided, word_kind};
 ghost use Rattle.std.specs.Prelude.{◌≡◌};
 
 use crate::fields::{Payload, is_code, is_side, is_size, is_turn, join, signed_bits};
@@ -27,11 +28,13 @@ fn payload(word: Word) -> Option<Payload>
         Word::Element { parent, role } => element(parent, role),
         Word::Mark { element } => Payload::new(element),
         Word::Origin { a, b } => signed_fields(a, b),
-        Word::Turn { quarters } => turn(u32::from(quarters)),
+        Word::Turn { quarters } => in_range(is_turn(u32::from(quarters)), quarters),
         Word::Pen { a, b } => signed_fields(a, b),
         Word::Line { a, b } => signed_fields(a, b),
-        Word::Paint { operator } => Payload::new(u32::from(operator)),
-        Word::Text { size } => text(u32::from(size)),
+        Word::Paint { operator } => Some(Payload {
+            bits: u32::from(operator),
+        }),
+        Word::Text { size } => in_range(is_size(u32::from(size)), size),
         Word::Place { a, b } => signed_fields(a, b),
         Word::Show { codes } => show(codes),
     }
@@ -59,18 +62,13 @@ fn element(parent: u16, role: ElementType) -> Option<Payload>
     }
 }
 
-// The payload of a turn.
-fn turn(quarters: u32) -> Option<Payload>
-    ensures { with_payload Kind.Turn result ≡ encoded (Word.Turn quarters) }
+// The payload of one number, provided that it is in its kind's range.
+fn in_range(holds: bool, number: u8) -> Option<Payload>
+    ensures { (kind : Kind) → with_payload kind result ≡ provided holds (joined kind number) }
 {
-    if is_turn(quarters) { Payload::new(quarters) } else { None }
-}
-
-// The payload of a size of text.
-fn text(size: u32) -> Option<Payload>
-    ensures { with_payload Kind.Text result ≡ encoded (Word.Text size) }
-{
-    if is_size(size) { Payload::new(size) } else { None }
+    holds.then_some(Payload {
+        bits: u32::from(number),
+    })
 }
 
 // The payload of two signed fields.
@@ -84,12 +82,11 @@ fn signed_fields(a: i32, b: i32) -> Option<Payload>
 fn show(codes: Codes) -> Option<Payload>
     ensures { with_payload Kind.Show result ≡ encoded (Word.Show codes) }
 {
-    let count = codes.count();
     match codes {
-        Codes::One(x) if is_code(x) => Some(Payload::of_bytes(count, x, 0, 0)),
-        Codes::Two(x, y) if is_code(x) && is_code(y) => Some(Payload::of_bytes(count, x, y, 0)),
+        Codes::One(x) if is_code(x) => Some(Payload::of_bytes(1, x, 0, 0)),
+        Codes::Two(x, y) if is_code(x) && is_code(y) => Some(Payload::of_bytes(2, x, y, 0)),
         Codes::Three(x, y, z) if is_code(x) && is_code(y) && is_code(z) => {
-            Some(Payload::of_bytes(count, x, y, z))
+            Some(Payload::of_bytes(3, x, y, z))
         }
         _ => None,
     }

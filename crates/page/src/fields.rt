@@ -74,19 +74,6 @@ pub(crate) fn show_count(word: u32) -> u32
     (word >> 24) % 16
 }
 
-// The three bytes of a word, from the highest on.
-pub(crate) fn show_bytes(word: u32) -> (u8, u8, u8)
-    ensures first { result.0 ≡ first_byte word }
-    ensures second { result.1 ≡ second_byte word }
-    ensures third { result.2 ≡ third_byte word }
-{
-    (
-        ((word >> 16) % 256) as u8,
-        ((word >> 8) % 256) as u8,
-        (word % 256) as u8,
-    )
-}
-
 // What stands below a word's kind.
 #[derive(Clone, Copy)]
 pub(crate) struct Payload {
@@ -101,7 +88,11 @@ impl Payload {
     pub(crate) fn new(bits: u32) -> Option<Payload>
         ensures { option_map (λ payload. payload.bits) result ≡ provided (nat_lt bits (2 ^ 28)) bits }
     {
-        if bits < 1 << 28 { Some(Payload { bits }) } else { None }
+        if bits < 1 << 28 {
+            Some(Payload { bits })
+        } else {
+            None
+        }
     }
 
     // Field a above field b.
@@ -116,12 +107,12 @@ impl Payload {
     }
 
     // A count above three bytes.
-    pub(crate) fn of_bytes(count: u32, x: u8, y: u8, z: u8) -> Payload
+    pub(crate) fn of_bytes(count: u8, x: u8, y: u8, z: u8) -> Payload
         requires { count < 2 ^ 4 }
         ensures { result.bits ≡ shown count x y z }
     {
         Payload {
-            bits: count * (1 << 24) + u32::from(x) * (1 << 16) + u32::from(y) * (1 << 8) + u32::from(z),
+            bits: u32::from_be_bytes([count, x, y, z]),
         }
     }
 }
