@@ -42,15 +42,9 @@ undone_by n (no_payload low out d) w e = cc
 undone_by n (says v low within b kind d) w e = cc
 
 refusals_by : (n : ℕ) → Way n → Refusals n (decoded n)
-refusals_by n (no_kind high d) =
-    record {
-      by_kind = (λ _. high, λ _. d);
-      by_payload = (λ e. let z : ◌≡◌ {A = ℕ} 0 1 = cc in absurd (omega arith), λ h. absurd (omega arith));
-    }
-refusals_by n (no_payload low out d) =
-    record { by_kind = (λ e. let z : ◌≡◌ {A = ℕ} 0 1 = cc in omega arith, λ h. absurd (omega arith)); by_payload = (λ _. (low, out), λ _. d) }
-refusals_by n (says v low within b kind d) =
-    record { by_kind = (λ e. let z : ◌≡◌ {A = ℕ} 0 1 = cc in omega arith, λ h. absurd (omega arith)); by_payload = (λ e. let z : ◌≡◌ {A = ℕ} 0 1 = cc in absurd (omega arith), λ h. absurd (h.1 within)) }
+refusals_by n (no_kind high d) = search arith
+refusals_by n (no_payload low out d) = search arith
+refusals_by n (says v low within b kind d) = search arith
 
 kind_by : (n : ℕ) → Way n → KindRead n (decoded n)
 kind_by n (no_kind high d) w e = cc

@@ -121,7 +121,7 @@ impl Payload {
 pub(crate) fn join(kind: Kind, payload: Payload) -> u32
     ensures { result ≡ joined kind payload.bits }
 {
-    kind as u32 * (1 << 28) + payload.bits
+    u32::from(kind) * (1 << 28) + payload.bits
 }
 
 // The fourteen bits of a number in two's complement, if they hold it.
@@ -140,7 +140,7 @@ pub(crate) fn signed_bits(number: i32) -> Option<u16>
 pub(crate) fn is_side(length: u16) -> bool
     ensures { result ≡ is_side length }
 {
-    SHORTEST_SIDE <= length && length <= LONGEST_SIDE
+    (SHORTEST_SIDE..=LONGEST_SIDE).contains(&length)
 }
 
 // Whether a number is a count of quarter turns.
@@ -154,12 +154,12 @@ pub(crate) fn is_turn(quarters: u32) -> bool
 pub(crate) fn is_size(size: u32) -> bool
     ensures { result ≡ is_size size }
 {
-    1 <= size && size <= LARGEST_SIZE
+    (1..=LARGEST_SIZE).contains(&size)
 }
 
 // Whether a byte is a code to show.
 pub(crate) fn is_code(byte: u8) -> bool
     ensures { result ≡ is_code byte }
 {
-    b' ' <= byte && byte <= b'~'
+    (b' '..=b'~').contains(&byte)
 }

@@ -33,6 +33,15 @@ impl TryFrom<u32> for Kind {
     }
 }
 
+impl From<Kind> for u32 {
+    ghost from_gives = { λ kind number. number ≡ kind_number kind };
+
+    // The kind's number in a word.
+    fn from(kind: Kind) -> u32 {
+        kind as u32
+    }
+}
+
 impl fmt::Display for Kind {
     ghost output = { λ kind. Some (kind_name kind) };
 
