@@ -1,5 +1,5 @@
 -- A payload is refused exactly if it is not in its kind's range.
-use Rattle.std.proofs.Common.{◌≡◌, ℕ, Bool, true, cond, ◌&&◌, eqb, ◌⊎◌, Some, None, Option, refl, ◌∙◌, ⊎_elim, arith}
+use Rattle.std.proofs.Common.{◌≡◌, ◌≢◌, ℕ, Bool, true, cond, ◌&&◌, eqb, ◌⊎◌, Some, None, Option, refl, ◌∙◌, ⊎_elim, arith}
 use Rattle.std.proofs.lemmas.Bool.Decides.{nat_tests}
 use Rattle.page.specs.declared.types.Kind.{Kind}
 use Rattle.page.specs.declared.types.Kind.TheVariants as kind
@@ -33,7 +33,7 @@ counted count x y z codes r =
     (picked count _ _ _ _ _ _ codes r)
 
 shown_codes : (o : Option Codes) (w : Word) → show_of o ≡ Some w → (codes : Codes) × (o ≡ Some codes)
-shown_codes None w e = let z : ◌≡◌ {A = ℕ} 0 1 = cc in absurd (omega arith)
+shown_codes None w e = search arith
 shown_codes (Some codes) w e = (codes, refl)
 
 -- what was read is in its kind's range
@@ -60,7 +60,7 @@ in_range kind.Show n w e r =
     search (arith, nat_tests)
 
 -- what is in its kind's range is read
-pub read_in_range : (k : Kind) (n : ℕ) → kind_of n ≡ kind_number k → InRange (kind_of n) (payload_of n) → word_of k n ≡ None → ⊥
+pub read_in_range : (k : Kind) (n : ℕ) → kind_of n ≡ kind_number k → InRange (kind_of n) (payload_of n) → word_of k n ≢ None
 read_in_range kind.Page n e h r = grind (arith, nat_tests)
 read_in_range kind.Close n e h r = grind (arith, nat_tests)
 read_in_range kind.Element n e h r = grind (arith, nat_tests)

@@ -1,5 +1,5 @@
 -- Decoding and encoding undo each other.
-use Rattle.std.proofs.Common.{◌≡◌, ℕ, ◌^◌, ◌<◌, Bool, true, false, ◌&&◌, ℤ, pos, negsuc, Some, Ok, sym, refl, ap, ◌∙◌, arith}
+use Rattle.std.proofs.Common.{◌≡◌, ℕ, ◌^◌, ◌<◌, Bool, true, ◌&&◌, ℤ, pos, negsuc, Some, Ok, ap, ◌∙◌, arith}
 use Rattle.std.proofs.lemmas.Bool.Decides.{nat_tests}
 use Rattle.std.proofs.lemmas.Int.{ints}
 use Rattle.std.proofs.lemmas.Bool.{and_parts}
@@ -19,8 +19,7 @@ use Rattle.page.specs.Encoded.{encoded, signed_fields}
 
 -- what is provided by a test: the test held, and this is the value
 provided_is : {X : Type 0} (holds : Bool) (x y : X) → provided holds x ≡ Some y → (holds ≡ true) × (x ≡ y)
-provided_is true x y e = (refl, cc)
-provided_is false x y e = let z : true ≡ false = cc in (sym z, cc)
+provided_is holds x y e = grind arith
 
 -- two's complement, there and back
 signed_fits : (n : ℕ) → n < 2 ^ 14 → is_signed (signed n) ≡ true

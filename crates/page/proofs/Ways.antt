@@ -1,5 +1,5 @@
 -- The laws of decoding, by the three ways that it can go, and what cannot be encoded.
-use Rattle.std.proofs.Common.{◌≡◌, ℕ, ◌<◌, ◌≤◌, Some, None, Ok, Err, Option, Result, sym, refl, ap, ◌∙◌, subst, ⊎_elim, arith}
+use Rattle.std.proofs.Common.{◌≡◌, ℕ, ◌<◌, ◌≤◌, Some, None, Ok, Err, Option, Result, sym, refl, ap, ◌∙◌, ⊎_elim, arith}
 use Rattle.std.proofs.lemmas.Bool.{cases_lt}
 use Rattle.std.specs.Option.{ok_or}
 use Rattle.page.specs.declared.types.Kind.{Kind}
@@ -35,35 +35,22 @@ way n =
     way_read k n low (number_kind_numbered (kind_of n) low) (ap (λ o. decoded_as o n) (kind_at_low (kind_of n) low)) (word_of k n) refl)
     (cases_lt highest_kind (kind_of n))
 
--- each law holds whichever way it is
-undone_by : (n : ℕ) → Way n → DecodeUndone n (decoded n)
-undone_by n (no_kind high d) w e = cc
-undone_by n (no_payload low out d) w e = cc
-undone_by n (says v low within b kind d) w e = cc
+-- The laws of decoding, of an answer.
+pub record Lawful (n : ℕ) (answer : Result Word Refusal) : Type 0 where
+  pub undone : DecodeUndone n answer
+  pub kind : KindRead n answer
+  pub refusals : Refusals n answer
 
-refusals_by : (n : ℕ) → Way n → Refusals n (decoded n)
-refusals_by n (no_kind high d) = search arith
-refusals_by n (no_payload low out d) = search arith
-refusals_by n (says v low within b kind d) = search arith
+lawful_by : (n : ℕ) (answer : Result Word Refusal) → answer ≡ decoded n → Way n → Lawful n answer
+lawful_by n answer same (no_kind high d) = search arith
+lawful_by n answer same (no_payload low out d) = search arith
+lawful_by n answer same (says v low within b kind d) = search arith
 
-kind_by : (n : ℕ) → Way n → KindRead n (decoded n)
-kind_by n (no_kind high d) w e = cc
-kind_by n (no_payload low out d) w e = cc
-kind_by n (says v low within b kind d) w e = cc
-
--- where decoding answers a word, the word's bits are those that were decoded
-pub decode_undone : (n : ℕ) (answer : Result Word Refusal) → answer ≡ decoded n → DecodeUndone n answer
-decode_undone n answer same = subst (λ r. DecodeUndone n r) (sym same) (undone_by n (way n))
-
--- and the word's kind is theirs
-pub kind_read : (n : ℕ) (answer : Result Word Refusal) → answer ≡ decoded n → KindRead n answer
-kind_read n answer same = subst (λ r. KindRead n r) (sym same) (kind_by n (way n))
-
--- what decoding refuses
-pub refusals : (n : ℕ) (answer : Result Word Refusal) → answer ≡ decoded n → Refusals n answer
-refusals n answer same = subst (λ r. Refusals n r) (sym same) (refusals_by n (way n))
+-- they hold of what n says
+pub lawful : (n : ℕ) (answer : Result Word Refusal) → answer ≡ decoded n → Lawful n answer
+lawful n answer same = lawful_by n answer same (way n)
 
 -- a word has no bits exactly if no bits say it
 pub encode_refused : (w : Word) (o : Option ℕ) → o ≡ encoded w → EncodeRefused w o
-encode_refused w None e = (λ _ n d. let b = decode_undone n (decoded n) refl w d in let z : ◌≡◌ {A = ℕ} 0 1 = cc in omega arith, λ _. refl)
-encode_refused w (Some n) e = (λ none. let z : ◌≡◌ {A = ℕ} 0 1 = cc in absurd (omega arith), λ no_bits. absurd (no_bits n (decoded_back w n (sym e))))
+encode_refused w None e = (λ _ n d. let b = (lawful n (decoded n) refl).undone w d in search arith, λ _. refl)
+encode_refused w (Some n) e = let back = decoded_back w n (sym e) in search arith
