@@ -41,16 +41,20 @@ pub record Lawful (n : ℕ) (answer : Result Word Refusal) : Type 0 where
   pub kind : KindRead n answer
   pub refusals : Refusals n answer
 
-lawful_by : (n : ℕ) (answer : Result Word Refusal) → answer ≡ decoded n → Way n → Lawful n answer
-lawful_by n answer same (no_kind high d) = search arith
-lawful_by n answer same (no_payload low out d) = search arith
-lawful_by n answer same (says v low within b kind d) = search arith
+lawful_by : (n : ℕ) → Way n → Lawful n (decoded n)
+lawful_by n (no_kind high d) = search arith
+lawful_by n (no_payload low out d) = search arith
+lawful_by n (says v low within b kind d) = search arith
 
 -- they hold of what n says
-pub lawful : (n : ℕ) (answer : Result Word Refusal) → answer ≡ decoded n → Lawful n answer
-lawful n answer same = lawful_by n answer same (way n)
+pub lawful : (n : ℕ) → Lawful n (decoded n)
+lawful n = lawful_by n (way n)
+
+-- what decoding refuses
+pub refusals : (n : ℕ) → Refusals n (decoded n)
+refusals n = (lawful n).refusals
 
 -- a word has no bits exactly if no bits say it
 pub encode_refused : (w : Word) (o : Option ℕ) → o ≡ encoded w → EncodeRefused w o
-encode_refused w None e = (λ _ n d. let b = (lawful n (decoded n) refl).undone w d in search arith, λ _. refl)
+encode_refused w None e = (λ _ n d. let b = (lawful n).undone w d in search arith, λ _. refl)
 encode_refused w (Some n) e = let back = decoded_back w n (sym e) in search arith
