@@ -4,7 +4,7 @@ ghost use Rattle.page.specs.Fields.{first_byte, second_byte, show_count, third_b
 ghost use Rattle.page.specs.Laws.{DecodeUndone, KindRead, Refusals};
 ghost use Rattle.page.specs.Numbers.{operator_at, provided, type_at};
 ghost use Rattle.std.specs.Option.{ok_or};
-ghost use Rattle.std.specs.Prelude.{◌≡◌};
+ghost use Rattle.std.specs.Prelude.{◌≡◌, ◌^◌, nat_lt};
 
 use crate::fields::{
     is_code, is_side, is_size, is_turn, kind_number, payload_bits, show_count, signed_a, signed_b,
@@ -55,6 +55,13 @@ fn in_range(holds: bool, word: Word) -> Result<Word, Refusal>
     holds.then_some(word).ok_or(Refusal::Payload)
 }
 
+// A payload of one byte.
+fn byte(payload: u32) -> Result<u8, Refusal>
+    ensures { result ≡ ok_or (provided (nat_lt payload (2 ^ 8)) payload) Refusal.Payload }
+{
+    u8::try_from(payload).map_err(|_| Refusal::Payload)
+}
+
 // A page of two sides.
 fn page(width: u16, height: u16) -> Result<Word, Refusal>
     ensures { result ≡ ok_or (page_of width height) Refusal.Payload }
@@ -84,12 +91,8 @@ fn element(parent: u16, number: u16) -> Result<Word, Refusal>
 fn turn(quarters: u32) -> Result<Word, Refusal>
     ensures { result ≡ ok_or (turn_of quarters) Refusal.Payload }
 {
-    if !is_turn(quarters) {
-        return Err(Refusal::Payload);
-    }
-    Ok(Word::Turn {
-        quarters: quarters as u8,
-    })
+    let quarters = byte(quarters)?;
+    in_range(is_turn(quarters), Word::Turn { quarters })
 }
 
 // A paint word, if there is such an operator.
@@ -104,10 +107,8 @@ fn paint(number: u32) -> Result<Word, Refusal>
 fn text(size: u32) -> Result<Word, Refusal>
     ensures { result ≡ ok_or (text_of size) Refusal.Payload }
 {
-    if !is_size(size) {
-        return Err(Refusal::Payload);
-    }
-    Ok(Word::Text { size: size as u8 })
+    let size = byte(size)?;
+    in_range(is_size(size), Word::Text { size })
 }
 
 // A show word, if its bytes are codes.

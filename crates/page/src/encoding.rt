@@ -28,13 +28,13 @@ fn payload(word: Word) -> Option<Payload>
         Word::Element { parent, role } => element(parent, role),
         Word::Mark { element } => Payload::new(element),
         Word::Origin { a, b } => signed_fields(a, b),
-        Word::Turn { quarters } => in_range(is_turn(u32::from(quarters)), quarters),
+        Word::Turn { quarters } => in_range(is_turn(quarters), quarters),
         Word::Pen { a, b } => signed_fields(a, b),
         Word::Line { a, b } => signed_fields(a, b),
         Word::Paint { operator } => Some(Payload {
             bits: u32::from(operator),
         }),
-        Word::Text { size } => in_range(is_size(u32::from(size)), size),
+        Word::Text { size } => in_range(is_size(size), size),
         Word::Place { a, b } => signed_fields(a, b),
         Word::Show { codes } => show(codes),
     }
@@ -44,22 +44,14 @@ fn payload(word: Word) -> Option<Payload>
 fn page(width: u16, height: u16) -> Option<Payload>
     ensures { with_payload Kind.Page result ≡ encoded (Word.Page width height) }
 {
-    if is_side(width) && is_side(height) {
-        Some(Payload::of_fields(width, height))
-    } else {
-        None
-    }
+    (is_side(width) && is_side(height)).then(|| Payload::of_fields(width, height))
 }
 
 // The payload of an element.
 fn element(parent: u16, role: ElementType) -> Option<Payload>
     ensures { with_payload Kind.Element result ≡ encoded (Word.Element parent role) }
 {
-    if parent < 1 << 14 {
-        Some(Payload::of_fields(parent, u16::from(role)))
-    } else {
-        None
-    }
+    (parent < 1 << 14).then(|| Payload::of_fields(parent, u16::from(role)))
 }
 
 // The payload of one number, provided that it is in its kind's range.

@@ -1,7 +1,7 @@
 // The fields of a word of 32 bits, read and put together, and the ranges that they are held to.
+ghost use Rattle.page.specs.Fields.{bits_of, fields, first_byte, is_code, is_side, is_signed, is_size, is_turn, joined, kind_of, payload_of, second_byte, show_count, shown, signed, signed_a, signed_b, third_byte, unsigned_a, unsigned_b};
 ghost use Rattle.page.specs.Numbers.{provided};
 ghost use Rattle.std.specs.Prelude.{◌≡◌, ◌^◌, ◌<◌, IfSome, nat_lt};
-ghost use Rattle.page.specs.Fields.{bits_of, fields, first_byte, is_code, is_side, is_signed, is_size, is_turn, joined, kind_of, payload_of, second_byte, show_count, shown, signed, signed_a, signed_b, third_byte, unsigned_a, unsigned_b};
 
 use crate::types::Kind;
 
@@ -12,10 +12,10 @@ const SHORTEST_SIDE: u16 = 3;
 const LONGEST_SIDE: u16 = 14_400;
 
 // The most quarters in a turn.
-const MOST_QUARTERS: u32 = 3;
+const MOST_QUARTERS: u8 = 3;
 
 // The largest size of text.
-const LARGEST_SIZE: u32 = 144;
+const LARGEST_SIZE: u8 = 144;
 
 // The number of a word's kind.
 pub(crate) fn kind_number(word: u32) -> u32
@@ -75,7 +75,7 @@ pub(crate) fn show_count(word: u32) -> u32
 }
 
 // What stands below a word's kind.
-#[derive(Clone, Copy)]
+#[derive(Clone, Copy, PartialEq, Eq, Debug)]
 pub(crate) struct Payload {
     pub(crate) bits: u32,
     ghost short: { bits < 2 ^ 28 },
@@ -144,14 +144,14 @@ pub(crate) fn is_side(length: u16) -> bool
 }
 
 // Whether a number is a count of quarter turns.
-pub(crate) fn is_turn(quarters: u32) -> bool
+pub(crate) fn is_turn(quarters: u8) -> bool
     ensures { result ≡ is_turn quarters }
 {
     quarters <= MOST_QUARTERS
 }
 
 // Whether a number is a size of text.
-pub(crate) fn is_size(size: u32) -> bool
+pub(crate) fn is_size(size: u8) -> bool
     ensures { result ≡ is_size size }
 {
     (1..=LARGEST_SIZE).contains(&size)
