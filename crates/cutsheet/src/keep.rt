@@ -9,7 +9,7 @@ const MEMORY: usize = 16_400;
 // Tells what became of the words in a memory.
 fn tell(rt: &HostRuntime, memory: &str, report: Report) -> anyhow::Result<()> {
     if let Err(refusal) = report.answer {
-        let number = refusal.number();
+        let number = u8::from(refusal);
         println!(rt; "{memory}: refused {number} (no room)")?;
         return Ok(());
     }

@@ -7,7 +7,6 @@ use std::{env, fs};
 
 mod keep;
 mod listing;
-mod spoken;
 
 const USAGE: &str = "usage: cutsheet list [FILE]
   lists the words of the page script in FILE, or in standard input, one to a line,

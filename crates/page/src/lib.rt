@@ -5,6 +5,7 @@ mod decoding;
 mod encoding;
 mod fields;
 mod numbers;
+mod printing;
 #[cfg(test)]
 mod tests;
 mod types;

@@ -5,7 +5,7 @@ ghost use Rattle.sheet.specs.Refusals.{begin_number, word_number};
 use page::Refusal;
 
 // Why a sheet is not begun.
-#[derive(Clone, Copy)]
+#[derive(Clone, Copy, PartialEq, Eq, Debug)]
 pub enum BeginRefusal {
     // More words are told than a script may have.
     Long,
@@ -18,7 +18,7 @@ pub enum BeginRefusal {
 }
 
 // Why a word is refused.
-#[derive(Clone, Copy)]
+#[derive(Clone, Copy, PartialEq, Eq, Debug)]
 pub enum WordRefusal {
     // Its 32 bits say no word.
     Unread { why: Refusal },
@@ -36,7 +36,7 @@ pub enum WordRefusal {
 
 // A refused word: its place in the script, from 0, and the number of the refusal.
 // A number and no enum: this is the record of the note tray, which the caller of the library lends and reads.
-#[derive(Clone, Copy)]
+#[derive(Clone, Copy, PartialEq, Eq, Debug)]
 pub struct Note {
     pub place: u32,
     pub number: u32,
@@ -62,7 +62,7 @@ impl From<WordRefusal> for u32 {
 
     fn from(refusal: WordRefusal) -> u32 {
         match refusal {
-            WordRefusal::Unread { why } => u32::from(why.number()),
+            WordRefusal::Unread { why } => u32::from(u8::from(why)),
             WordRefusal::NotTaken => 12,
             WordRefusal::NoElement => 13,
             WordRefusal::Limit => 14,
