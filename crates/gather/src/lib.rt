@@ -2,9 +2,9 @@
 #![tactic(auto)]
 
 ghost use Rattle.std.specs.Prelude.{◌≡◌, ◌+◌, ◌-◌, ◌≤◌, min, length};
-ghost use Rattle.sink.specs.Meaning.{grown, Puts, StaysIfRefused};
+ghost use Rattle.sink.specs.Meaning.{grown, Writes};
 ghost use Rattle.gather.specs.Gathers.{most_waiting, gathered_lawful, WaitsIfShort};
-ghost use Rattle.gather.specs.Layers.{layer_view, waiting_in};
+ghost use Rattle.gather.specs.Layers.{layer_view, layer_held, waiting_in};
 
 use sink::Sink;
 use sink::refusal::Refusal;
@@ -94,15 +94,14 @@ impl<S: Sink> Gather<S> {
 impl<S: Sink> Sink for Gather<S> {
     ghost view = { layer_view S.Sink.view };
 
-    ghost held = { λ s. S.Sink.held s.below + waiting_in S.Sink.view s };
+    ghost held = { layer_held S.Sink.view S.Sink.held };
 
     ghost memory = { λ s. S.Sink.memory s.below };
 
     ghost lawful = { λ s. gathered_lawful (S.Sink.view s.below) s.buffer s.count (S.Sink.lawful s.below) };
 
     fn put(&mut self, part: &[u8]) -> Result<(), Refusal>
-        ensures puts { Puts result part.now (layer_view S.Sink.view self.old) (layer_view S.Sink.view self.new) }
-        ensures stays { StaysIfRefused result (S.Sink.held self.old.below + waiting_in S.Sink.view self.old) (S.Sink.held self.new.below + waiting_in S.Sink.view self.new) (S.Sink.memory self.old.below) (S.Sink.memory self.new.below) }
+        ensures writes { Writes (layer_view S.Sink.view) (layer_held S.Sink.view S.Sink.held) (λ s. S.Sink.memory s.below) result part.now self.old self.new }
         ensures gathers { WaitsIfShort result (length part.now) (waiting_in S.Sink.view self.old) (waiting_in S.Sink.view self.new) (S.Sink.view self.old.below) (S.Sink.view self.new.below) }
     {
         let n = part.len();

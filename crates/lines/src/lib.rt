@@ -2,7 +2,7 @@
 #![tactic(auto)]
 
 ghost use Rattle.std.specs.Prelude.{◌≡◌, ◌≤◌, [], ◌∷◌, ◌++◌, length, drop, decimal};
-ghost use Rattle.sink.specs.Meaning.{Puts, StaysIfRefused};
+ghost use Rattle.sink.specs.Meaning.{Writes};
 
 use sink::Sink;
 use sink::refusal::Refusal;
@@ -39,8 +39,7 @@ pub fn digits(n: u64) -> usize
 
 // Puts n in decimal, with no sign and no leading zero.
 pub fn number<S: Sink>(sink: &mut S, n: u64) -> Result<(), Refusal>
-    ensures puts { Puts result (decimal n) (S.Sink.view sink.old) (S.Sink.view sink.new) }
-    ensures stays { StaysIfRefused result (S.Sink.held sink.old) (S.Sink.held sink.new) (S.Sink.memory sink.old) (S.Sink.memory sink.new) }
+    ensures { Writes S.Sink.view S.Sink.held S.Sink.memory result (decimal n) sink.old sink.new }
 {
     let mut buffer = [0u8; 20];
     let at = spell(&mut buffer, n);
@@ -49,8 +48,7 @@ pub fn number<S: Sink>(sink: &mut S, n: u64) -> Result<(), Refusal>
 
 // Puts a text and the LF that ends its line, both or neither.
 pub fn line<S: Sink>(sink: &mut S, text: &[u8]) -> Result<(), Refusal>
-    ensures puts { Puts result (text.now ++ 10 ∷ []) (S.Sink.view sink.old) (S.Sink.view sink.new) }
-    ensures stays { StaysIfRefused result (S.Sink.held sink.old) (S.Sink.held sink.new) (S.Sink.memory sink.old) (S.Sink.memory sink.new) }
+    ensures { Writes S.Sink.view S.Sink.held S.Sink.memory result (text.now ++ 10 ∷ []) sink.old sink.new }
 {
     if text.len() >= (*sink).room() {
         return Err(Refusal::Full);

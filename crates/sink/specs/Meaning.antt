@@ -50,6 +50,12 @@ pub record StaysIfRefused (r : Result Unit Refusal) (held held' : ℕ) (memory m
   pub held_stays : is_ok r ≡ false → held' ≡ held
   pub memory_stays : is_ok r ≡ false → memory' ≡ memory
 
+-- What a call says that puts a text into a sink, whose meaning is told by view, held and memory: the text is
+-- put whole, or refused with nothing changed.
+pub record Writes {S : Type 0} (view : S → View) (held : S → ℕ) (memory : S → List ℕ) (r : Result Unit Refusal) (text : List ℕ) (before later : S) : Type 0 where
+  pub puts : Puts r text (view before) (view later)
+  pub stays : StaysIfRefused r (held before) (held later) (memory before) (memory later)
+
 -- A sink that is reached through a loan of this ghost name.
 abbrev pub lent : ℕ → View → View
 lent loan v = record { bytes = v.bytes; room = v.room; beyond = v.beyond; loans = loan ∷ v.loans }

@@ -2,7 +2,7 @@
 #![tactic(auto)]
 
 ghost use Rattle.std.specs.Prelude.{◌≡◌, ℕ, List, length};
-ghost use Rattle.sink.specs.Meaning.{View, Lawful, Puts, StaysIfRefused};
+ghost use Rattle.sink.specs.Meaning.{View, Lawful, Writes};
 
 use crate::refusal::Refusal;
 
@@ -25,8 +25,7 @@ pub trait Sink {
 
     // Appends part, or refuses it for want of room and leaves all as it was.
     fn put(&mut self, part: &[u8]) -> Result<(), Refusal>
-        ensures puts { Puts result part.now (view self.old) (view self.new) }
-        ensures stays { StaysIfRefused result (held self.old) (held self.new) (memory self.old) (memory self.new) };
+        ensures { Writes view held memory result part.now self.old self.new };
 
     // How many bytes it has.
     fn len(&self) -> usize

@@ -2,7 +2,7 @@
 #![tactic(auto)]
 
 ghost use Rattle.std.specs.Prelude.{◌≡◌, ◌-◌, ◌++◌, length, drop, is_ok, if◌then◌else◌};
-ghost use Rattle.sink.specs.Meaning.{Puts, StaysIfRefused, answer};
+ghost use Rattle.sink.specs.Meaning.{Puts, Writes, answer};
 ghost use Rattle.sink.specs.Memory.{capacity};
 ghost use Rattle.flash.specs.Words.{flat};
 ghost use Rattle.store.specs.Stored.{stored, Told};
@@ -22,8 +22,7 @@ const UNIT: usize = 7;
 
 // Puts each word as four bytes, the top bits first, all or none.
 pub fn put_words<S: Sink>(sink: &mut S, words: &[u32]) -> Result<(), Refusal>
-    ensures puts { Puts result (flat words.now) (S.Sink.view sink.old) (S.Sink.view sink.new) }
-    ensures stays { StaysIfRefused result (S.Sink.held sink.old) (S.Sink.held sink.new) (S.Sink.memory sink.old) (S.Sink.memory sink.new) }
+    ensures { Writes S.Sink.view S.Sink.held S.Sink.memory result (flat words.now) sink.old sink.new }
 {
     if words.len() > (*sink).room() / 4 {
         return Err(Refusal::Full);
@@ -36,8 +35,7 @@ pub fn put_words<S: Sink>(sink: &mut S, words: &[u32]) -> Result<(), Refusal>
 
 // Puts how many words there are as a line of text, and then the words, all or none.
 pub fn store<S: Sink>(sink: &mut S, words: &[u32]) -> Result<(), Refusal>
-    ensures puts { Puts result (stored words.now) (S.Sink.view sink.old) (S.Sink.view sink.new) }
-    ensures stays { StaysIfRefused result (S.Sink.held sink.old) (S.Sink.held sink.new) (S.Sink.memory sink.old) (S.Sink.memory sink.new) }
+    ensures { Writes S.Sink.view S.Sink.held S.Sink.memory result (stored words.now) sink.old sink.new }
 {
     let count = words.len() as u64;
     let head = digits(count) + UNIT;

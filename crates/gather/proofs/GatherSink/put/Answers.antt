@@ -22,16 +22,14 @@ hold-requires-then-n-spare-2 g c =
 pub returns-then-n-room : goal.returns-then-n-room
 returns-then-n-room g c =
     record {
-      puts = puts_refused (omega (arith, c.room.ensures));
-      stays = stays_same;
+      writes = record { puts = puts_refused (omega (arith, c.room.ensures)); stays = stays_same };
       gathers = waits_refused;
     }
 
 pub returns-then-n-spare : goal.returns-then-n-spare
 returns-then-n-spare g c =
     record {
-      puts = puts_taken (omega (arith, c.room.ensures)) c.hold.ensures.after;
-      stays = stays_if_taken;
+      writes = record { puts = puts_taken (omega (arith, c.room.ensures)) c.hold.ensures.after; stays = stays_if_taken };
       gathers = record { waits = λ _ _. c.hold.ensures.more; below_stays = λ _ _. ap g.S.Sink.view c.hold.ensures.below };
     }
 
@@ -40,8 +38,7 @@ returns-then-n-spare-2 g c =
     let full : length c.args.self.now.buffer ≡ 64 = search rules in
     let same = ap (λ v. grown v c.args.part.now) c.pass_down.ensures.same in
     record {
-      puts = puts_taken (omega (arith, c.room.ensures)) (c.hold-then-n-spare-2.ensures.after ∙ same);
-      stays = stays_if_taken;
+      writes = record { puts = puts_taken (omega (arith, c.room.ensures)) (c.hold-then-n-spare-2.ensures.after ∙ same); stays = stays_if_taken };
       gathers = waits_long (omega arith);
     }
 
@@ -54,7 +51,6 @@ returns g c =
     let left = ap (λ (v : View). v.room) all in
     let fits : length c.args.part.now ≤ (g.S.Sink.view s.below).room = omega (arith, c.room.ensures) in
     record {
-      puts = puts_below _ _ none all fits c.put.ensures.puts;
-      stays = stays_if_fits fits c.put.ensures.puts;
+      writes = record { puts = puts_below _ _ none all fits c.put.ensures.puts; stays = stays_if_fits fits c.put.ensures.puts };
       gathers = waits_long (omega arith);
     }
