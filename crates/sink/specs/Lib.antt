@@ -1,4 +1,3 @@
 pub mod Refusals
 pub mod Meaning
 pub mod Memory
-pub mod PlainMemory

@@ -7,6 +7,7 @@ ghost use Rattle.sink.specs.Meaning.{View, Lawful, Writes};
 use crate::refusal::Refusal;
 
 pub mod lent;
+pub mod memory;
 pub mod plain;
 pub mod refusal;
 

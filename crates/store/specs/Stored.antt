@@ -1,5 +1,7 @@
 -- The bytes by which a script is stored, and what is told of it.
-use Rattle.std.specs.Prelude.{◌≡◌, ℕ, ◌≤◌, List, ◌++◌, length, codes, decimal}
+use Rattle.std.specs.Prelude.{◌≡◌, ℕ, ◌≤◌, List, ◌++◌, length, drop, codes, decimal, is_ok, Result, if◌then◌else◌}
+use Rattle.sink.specs.declared.refusal.Refusal.{Refusal}
+use Rattle.sink.specs.Meaning.{View, Puts}
 use Rattle.flash.specs.Words.{flat}
 use Rattle.store.specs.declared.report.Report.{Report}
 
@@ -14,3 +16,18 @@ pub record Told (r : Report) (count left : ℕ) : Type 0 where
   pub room : r.room ≡ left
   pub waits : r.waits ≡ 0
   pub waited : r.waited ≤ count
+
+-- What a call says that stores words in a sink, whose meaning is told by view, held and memory: all the words are put,
+-- or none; the sink is left settled, its memory the bytes and then what lies beyond; and the report tells the truth.
+pub record Stores {S : Type 0} (view : S → View) (held : S → ℕ) (memory : S → List ℕ) (r : Report) (words : List ℕ) (before later : S) : Type 0 where
+  pub puts : Puts r.answer (stored words) (view before) (view later)
+  pub none_held : held later ≡ 0
+  pub lands : memory later ≡ (view later).bytes ++ (view later).beyond
+  pub told : Told r (length (view later).bytes) (view later).room
+
+-- How many bytes a fresh sink has after one text, and what its memory then holds.
+abbrev pub count_after : Result Unit Refusal → List ℕ → ℕ
+count_after r text = if is_ok r then length text else 0
+
+abbrev pub memory_after : Result Unit Refusal → List ℕ → List ℕ → List ℕ
+memory_after r text memory = if is_ok r then text ++ drop (length text) memory else memory

@@ -1,18 +1,17 @@
 // A script's words kept in any sink, through a pile of two gathering layers.
 #![tactic(auto)]
 
-ghost use Rattle.std.specs.Prelude.{◌≡◌, ◌-◌, ◌++◌, length, drop, is_ok, if◌then◌else◌};
-ghost use Rattle.sink.specs.Meaning.{Puts, Writes, answer};
+ghost use Rattle.std.specs.Prelude.{◌≡◌, ◌-◌, length};
+ghost use Rattle.sink.specs.Meaning.{Writes, answer};
 ghost use Rattle.sink.specs.Memory.{capacity};
 ghost use Rattle.flash.specs.Words.{flat};
-ghost use Rattle.store.specs.Stored.{stored, Told};
+ghost use Rattle.store.specs.Stored.{stored, Told, Stores, count_after, memory_after};
 
 use crate::report::Report;
-use flash::Flash;
 use gather::Gather;
 use lines::{digits, line, number};
 use sink::Sink;
-use sink::plain::Plain;
+use sink::memory::{Layout, Memory};
 use sink::refusal::Refusal;
 
 pub mod report;
@@ -22,7 +21,7 @@ const UNIT: usize = 7;
 
 // Puts each word as four bytes, the top bits first, all or none.
 pub fn put_words<S: Sink>(sink: &mut S, words: &[u32]) -> Result<(), Refusal>
-    ensures { Writes S.Sink.view S.Sink.held S.Sink.memory result (flat words.now) sink.old sink.new }
+    ensures { Writes S.view S.held S.memory result (flat words.now) sink.old sink.new }
 {
     if words.len() > (*sink).room() / 4 {
         return Err(Refusal::Full);
@@ -35,7 +34,7 @@ pub fn put_words<S: Sink>(sink: &mut S, words: &[u32]) -> Result<(), Refusal>
 
 // Puts how many words there are as a line of text, and then the words, all or none.
 pub fn store<S: Sink>(sink: &mut S, words: &[u32]) -> Result<(), Refusal>
-    ensures { Writes S.Sink.view S.Sink.held S.Sink.memory result (stored words.now) sink.old sink.new }
+    ensures { Writes S.view S.held S.memory result (stored words.now) sink.old sink.new }
 {
     let count = words.len() as u64;
     let head = digits(count) + UNIT;
@@ -50,10 +49,7 @@ pub fn store<S: Sink>(sink: &mut S, words: &[u32]) -> Result<(), Refusal>
 
 // Stores the words through a layer over any sink that is lent, and settles it.
 pub fn store_gathered<S: Sink>(sink: &mut S, words: &[u32]) -> Report
-    ensures puts { Puts result.answer (stored words.now) (S.Sink.view sink.old) (S.Sink.view sink.new) }
-    ensures none_held { S.Sink.held sink.new ≡ 0 }
-    ensures lands { S.Sink.memory sink.new ≡ (S.Sink.view sink.new).bytes ++ (S.Sink.view sink.new).beyond }
-    ensures told { Told result (length (S.Sink.view sink.new).bytes) (S.Sink.view sink.new).room }
+    ensures { Stores S.view S.held S.memory result words.now sink.old sink.new }
 {
     let mut layer = Gather::new(sink);
     let answer = store(&mut layer, words);
@@ -70,31 +66,18 @@ pub fn store_gathered<S: Sink>(sink: &mut S, words: &[u32]) -> Report
 
 // Stores the words through two layers, one upon the other, over any sink that is lent, and settles both.
 pub fn store_piled<S: Sink>(sink: &mut S, words: &[u32]) -> Report
-    ensures puts { Puts result.answer (stored words.now) (S.Sink.view sink.old) (S.Sink.view sink.new) }
-    ensures none_held { S.Sink.held sink.new ≡ 0 }
-    ensures lands { S.Sink.memory sink.new ≡ (S.Sink.view sink.new).bytes ++ (S.Sink.view sink.new).beyond }
-    ensures told { Told result (length (S.Sink.view sink.new).bytes) (S.Sink.view sink.new).room }
+    ensures { Stores S.view S.held S.memory result words.now sink.old sink.new }
 {
     let mut lower = Gather::new(sink);
     store_gathered(&mut lower, words)
 }
 
-// Stores the words in plain memory: they stand first in it, and what was beyond is as it came.
-pub fn store_plain(memory: &mut [u8], words: &[u32]) -> Report
-    ensures answers { result.answer ≡ answer (length (stored words.now)) (capacity memory.old) }
-    ensures told { Told result (if is_ok result.answer then length (stored words.now) else 0) (capacity memory.old - (if is_ok result.answer then length (stored words.now) else 0)) }
-    ensures lands { memory.new ≡ (if is_ok result.answer then stored words.now ++ drop (length (stored words.now)) memory.old else memory.old) }
+// Stores the words in memory of any layout: they stand first in it, and what was beyond is as it came.
+pub fn store_in<L: Layout>(memory: &mut [L::Cell], words: &[u32]) -> Report
+    ensures answers { result.answer ≡ answer (length (stored words.now)) (capacity (L.flat memory.old)) }
+    ensures told { let count = count_after result.answer (stored words.now) in Told result count (capacity (L.flat memory.old) - count) }
+    ensures lands { L.flat memory.new ≡ memory_after result.answer (stored words.now) (L.flat memory.old) }
 {
-    let mut plain = Plain::new(memory);
-    store_piled(&mut plain, words)
-}
-
-// Stores the words in flash, likewise.
-pub fn store_flash(memory: &mut [u32], words: &[u32]) -> Report
-    ensures answers { result.answer ≡ answer (length (stored words.now)) (capacity (flat memory.old)) }
-    ensures told { Told result (if is_ok result.answer then length (stored words.now) else 0) (capacity (flat memory.old) - (if is_ok result.answer then length (stored words.now) else 0)) }
-    ensures lands { flat memory.new ≡ (if is_ok result.answer then stored words.now ++ drop (length (stored words.now)) (flat memory.old) else flat memory.old) }
-{
-    let mut flash = Flash::new(memory);
-    store_piled(&mut flash, words)
+    let mut sink = Memory::<L>::new(memory);
+    store_piled(&mut sink, words)
 }

@@ -1,7 +1,7 @@
 // What is told of a script that was to be stored.
 use sink::refusal::Refusal;
 
-#[derive(Clone, Copy)]
+#[derive(Clone, Copy, PartialEq, Eq, Debug)]
 pub struct Report {
     // Whether the sink took it.
     pub answer: Result<(), Refusal>,
