@@ -1,17 +1,19 @@
 -- The meaning of a layer, from that of the sink below it.
 use Rattle.std.specs.Prelude.{ℕ, ◌+◌}
-use Rattle.sink.specs.Meaning.{View}
-use Rattle.gather.specs.Gathers.{waiting, gathered}
+use Rattle.arrayvec.specs.ArrayVec.{array_vec_len}
+use Rattle.sink.specs.Meaning.{View, grown}
+use Rattle.sink.specs.declared.Sink.{Ghosts}
 use Rattle.gather.specs.declared.Gather.{Gather}
 
--- How many bytes wait in a layer.
-abbrev pub waiting_in : {S : Type 0} → (S → View) → Gather S → ℕ
-waiting_in view s = waiting (view s.below) s.buffer s.count
+module _ {S : Type 0} {g : Ghosts S} where
+  -- How many bytes wait in a layer.
+  abbrev pub waiting_in : Gather S g → ℕ
+  waiting_in s = array_vec_len s.waiting
 
--- How many bytes a layer holds back, those that the sink below holds back among them.
-abbrev pub layer_held : {S : Type 0} → (S → View) → (S → ℕ) → Gather S → ℕ
-layer_held view held s = held s.below + waiting_in view s
+  -- How many bytes a layer holds back, those that the sink below holds back among them.
+  abbrev pub layer_held : Gather S g → ℕ
+  layer_held s = g.held s.below + waiting_in s
 
--- What a layer means.
-abbrev pub layer_view : {S : Type 0} → (S → View) → Gather S → View
-layer_view view s = gathered (view s.below) s.buffer s.count
+  -- What a layer means: what is below, and then the bytes that wait.
+  abbrev pub layer_view : Gather S g → View
+  layer_view s = grown (g.view s.below) s.waiting.items

@@ -1,6 +1,0 @@
-use Rattle.std.proofs.Common.{arith}
-use Rattle.gather.proofs.GatherPuts.{gathered_room}
-use Rattle.gather.proofs.GatherSink.room.Goals as goal
-
-pub returns : goal.returns
-returns g c = let s = c.args.self.now in omega (arith, gathered_room (g.S.Sink.view s.below) s.buffer s.count)
