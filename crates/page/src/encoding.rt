@@ -22,6 +22,7 @@ pub fn encode(word: Word) -> Option<u32>
 fn payload(word: Word) -> Option<Payload>
     ensures { with_payload (word_kind word) result ≡ encoded word }
 {
+    // Two signed fields have four arms: a pattern that binds in several variants gets no proof.
     match word {
         Word::Page { width, height } => page(width, height),
         Word::Close | Word::Save => Some(Payload { bits: 0 }),

@@ -88,6 +88,7 @@ impl Payload {
     pub(crate) fn new(bits: u32) -> Option<Payload>
         ensures { option_map (λ payload. payload.bits) result ≡ provided (nat_lt bits (2 ^ 28)) bits }
     {
+        // An `if`, since a closure for `then` would have to require the fact of the test again.
         if bits < 1 << 28 {
             Some(Payload { bits })
         } else {
