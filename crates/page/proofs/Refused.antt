@@ -1,6 +1,7 @@
 -- A payload is refused exactly if it is not in its kind's range.
-use Rattle.std.proofs.Common.{◌≡◌, ◌≢◌, ℕ, Bool, true, cond, ◌&&◌, eqb, ◌⊎◌, Some, None, Option, refl, ◌∙◌, ⊎_elim, arith}
+use Rattle.std.proofs.Common.{◌≡◌, ◌≢◌, ℕ, Bool, true, ◌&&◌, if◌then◌else◌, ◌⊎◌, Some, None, Option, refl, ◌∙◌, ⊎_elim, arith}
 use Rattle.std.proofs.lemmas.Bool.Decides.{nat_tests}
+use Rattle.std.specs.Prelude.{◌==◌}
 use Rattle.page.specs.declared.types.Kind.{Kind}
 use Rattle.page.specs.declared.types.Kind.TheVariants as kind
 use Rattle.page.specs.declared.types.Word.{Word}
@@ -14,16 +15,16 @@ abbrev Shows : ℕ → ℕ → ℕ → ℕ → Type 0
 Shows count x y z = (Between 1 count 3) × Counted 1 count x × Counted 2 count y × Counted 3 count z
 
 -- codes that can be shown are as many as are counted, and the other bytes are 0
-counted_one : (count x y z : ℕ) → count ≡ 1 → (is_code x && (eqb y 0 && eqb z 0)) ≡ true → Shows count x y z
+counted_one : (count x y z : ℕ) → count ≡ 1 → (is_code x && (y == 0 && z == 0)) ≡ true → Shows count x y z
 counted_one count x y z e t = search (arith, nat_tests)
 
-counted_two : (count x y z : ℕ) → count ≡ 2 → (is_code x && (is_code y && eqb z 0)) ≡ true → Shows count x y z
+counted_two : (count x y z : ℕ) → count ≡ 2 → (is_code x && (is_code y && z == 0)) ≡ true → Shows count x y z
 counted_two count x y z e t = search (arith, nat_tests)
 
 counted_three : (count x y z : ℕ) → count ≡ 3 → (is_code x && (is_code y && is_code z)) ≡ true → Shows count x y z
 counted_three count x y z e t = search (arith, nat_tests)
 
-picked : (count : ℕ) (p q s : Bool) (a b c codes : Codes) → cond (eqb count 1) (provided p a) (cond (eqb count 2) (provided q b) (cond (eqb count 3) (provided s c) None)) ≡ Some codes → ((count ≡ 1) × (p ≡ true)) ⊎ (((count ≡ 2) × (q ≡ true)) ⊎ ((count ≡ 3) × (s ≡ true)))
+picked : (count : ℕ) (p q s : Bool) (a b c codes : Codes) → (if count == 1 then provided p a else if count == 2 then provided q b else if count == 3 then provided s c else None) ≡ Some codes → ((count ≡ 1) × (p ≡ true)) ⊎ (((count ≡ 2) × (q ≡ true)) ⊎ ((count ≡ 3) × (s ≡ true)))
 picked count p q s a b c codes e = grind (arith, nat_tests)
 
 counted : (count x y z : ℕ) (codes : Codes) → codes_of count x y z ≡ Some codes → Shows count x y z

@@ -1,5 +1,5 @@
 -- What 32 bits say: a word, or why they are refused.
-use Rattle.std.specs.Prelude.{ℕ, cond, ◌&&◌, Some, None, Err, Option, Result, ◌==◌}
+use Rattle.std.specs.Prelude.{ℕ, if◌then◌else◌, ◌&&◌, Some, None, Err, Option, Result, ◌==◌}
 use Rattle.std.specs.Option.{ok_or}
 use Rattle.page.specs.declared.types.Kind.{Kind}
 use Rattle.page.specs.declared.types.Kind.TheVariants as kind
@@ -43,10 +43,10 @@ text_of size = provided (is_size size) (Text size)
 -- The first `count` of three bytes, if they are codes and the other bytes are 0.
 abbrev pub codes_of : ℕ → ℕ → ℕ → ℕ → Option Codes
 codes_of count x y z =
-    cond (count == 1) (provided (is_code x && (y == 0 && z == 0)) (One x))
-    (cond (count == 2) (provided (is_code x && (is_code y && z == 0)) (Two x y))
-    (cond (count == 3) (provided (is_code x && (is_code y && is_code z)) (Three x y z))
-    None))
+    if count == 1 then provided (is_code x && (y == 0 && z == 0)) (One x)
+    else if count == 2 then provided (is_code x && (is_code y && z == 0)) (Two x y)
+    else if count == 3 then provided (is_code x && (is_code y && is_code z)) (Three x y z)
+    else None
 
 -- A show word, if there are such codes.
 abbrev pub show_of : Option Codes → Option Word

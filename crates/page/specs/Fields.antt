@@ -1,5 +1,5 @@
 -- The fields of a word of 32 bits, and the ranges that they are held to.
-use Rattle.std.specs.Prelude.{ℕ, suc, ◌+◌, ◌-◌, ◌*◌, ◌/◌, ◌%◌, ◌^◌, Bool, cond, ◌&&◌, ℤ, pos, negsuc, ◌-ℤ◌, nat_le, nat_lt}
+use Rattle.std.specs.Prelude.{ℕ, suc, ◌+◌, ◌-◌, ◌*◌, ◌/◌, ◌%◌, ◌^◌, Bool, if◌then◌else◌, ◌&&◌, ℤ, pos, negsuc, ◌-ℤ◌, nat_le, nat_lt}
 use Rattle.page.specs.declared.types.Kind.{Kind}
 use Rattle.page.specs.Numbers.{kind_number}
 
@@ -21,7 +21,7 @@ unsigned_b n = n % 2 ^ 14
 
 -- What fourteen bits stand for in two's complement.
 abbrev pub signed : ℕ → ℤ
-signed n = cond (nat_lt n (2 ^ 13)) (pos n) (pos n -ℤ pos (2 ^ 14))
+signed n = if nat_lt n (2 ^ 13) then pos n else (pos n -ℤ pos (2 ^ 14))
 
 -- Field a with its sign.
 abbrev pub signed_a : ℕ → ℤ

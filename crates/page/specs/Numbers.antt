@@ -1,5 +1,5 @@
 -- The numbers, names and letters of kinds, element types, paint operators, codes and refusals.
-use Rattle.std.specs.Prelude.{ℕ, ◌≡◌, ◌↔◌, Bool, cond, List, Some, None, Ok, codes, Option, Result, ◌==◌, nat_le}
+use Rattle.std.specs.Prelude.{ℕ, ◌≡◌, ◌↔◌, Bool, if◌then◌else◌, List, Some, None, Ok, codes, Option, Result, ◌==◌, nat_le}
 use Rattle.std.specs.Option.{ok_or}
 use Rattle.page.specs.declared.types.Kind.{Kind}
 use Rattle.page.specs.declared.types.Kind.TheVariants.{Page, Close, Element, Mark, Save, Origin, Turn, Pen, Line, Paint, Text, Place, Show}
@@ -16,7 +16,7 @@ use Rattle.page.specs.declared.types.Refusal.TheVariants as refusal
 
 -- A value, provided that a test holds; else nothing.
 abbrev pub provided : {X : Type 0} → Bool → X → Option X
-provided holds x = cond holds (Some x) None
+provided holds x = if holds then Some x else None
 
 -- The highest number of a kind.
 abbrev pub highest_kind : ℕ
@@ -73,19 +73,19 @@ word_kind (word.Show shown) = Show
 -- The kind of a number up to the highest.
 abbrev pub kind_numbered : ℕ → Kind
 kind_numbered n =
-    cond (n == 0) Page
-    (cond (n == 1) Close
-    (cond (n == 2) Element
-    (cond (n == 3) Mark
-    (cond (n == 4) Save
-    (cond (n == 5) Origin
-    (cond (n == 6) Turn
-    (cond (n == 7) Pen
-    (cond (n == 8) Line
-    (cond (n == 9) Paint
-    (cond (n == 10) Text
-    (cond (n == 11) Place
-    Show)))))))))))
+    if n == 0 then Page
+    else if n == 1 then Close
+    else if n == 2 then Element
+    else if n == 3 then Mark
+    else if n == 4 then Save
+    else if n == 5 then Origin
+    else if n == 6 then Turn
+    else if n == 7 then Pen
+    else if n == 8 then Line
+    else if n == 9 then Paint
+    else if n == 10 then Text
+    else if n == 11 then Place
+    else Show
 
 -- The kind of a number, if there is one.
 abbrev pub kind_at : ℕ → Option Kind
@@ -111,16 +111,16 @@ type_number Caption = 9
 -- The element type of a number up to the highest.
 abbrev pub type_numbered : ℕ → ElementType
 type_numbered n =
-    cond (n == 0) Document
-    (cond (n == 1) Part
-    (cond (n == 2) Sect
-    (cond (n == 3) P
-    (cond (n == 4) H1
-    (cond (n == 5) H2
-    (cond (n == 6) L
-    (cond (n == 7) LI
-    (cond (n == 8) Figure
-    Caption))))))))
+    if n == 0 then Document
+    else if n == 1 then Part
+    else if n == 2 then Sect
+    else if n == 3 then P
+    else if n == 4 then H1
+    else if n == 5 then H2
+    else if n == 6 then L
+    else if n == 7 then LI
+    else if n == 8 then Figure
+    else Caption
 
 -- The element type of a number, if there is one.
 abbrev pub type_at : ℕ → Option ElementType
@@ -149,11 +149,11 @@ operator_number End = 3
 -- The paint operator of a number, if there is one.
 abbrev pub operator_at : ℕ → Option PaintOperator
 operator_at n =
-    cond (n == 0) (Some Stroke)
-    (cond (n == 1) (Some CloseAndStroke)
-    (cond (n == 2) (Some Fill)
-    (cond (n == 3) (Some End)
-    None)))
+    if n == 0 then Some Stroke
+    else if n == 1 then Some CloseAndStroke
+    else if n == 2 then Some Fill
+    else if n == 3 then Some End
+    else None
 
 -- The letter of a paint operator in a page's contents: S, s, f, n.
 abbrev pub letter_of : PaintOperator → ℕ
