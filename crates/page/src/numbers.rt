@@ -1,4 +1,4 @@
-// The numbers, names and letters of kinds, element types, paint operators, codes and refusals.
+// The numbers, names and letters of kinds, types, operators, codes and refusals, also in print.
 ghost use Rattle.page.specs.declared.types.Refusal.{Refusal};
 ghost use Rattle.page.specs.Numbers.{IsCaseAt, count_of, kind_at, kind_name, kind_number, letter_of, name_of, number_of, operator_at, operator_number, reason_of, type_at, type_number, word_kind};
 ghost use Rattle.std.specs.Prelude.{◌≡◌, Some, slice_get};
