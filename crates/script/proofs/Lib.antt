@@ -4,4 +4,5 @@ pub mod Fronts
 pub mod Stepwise
 pub mod Lawful
 pub mod Turns
+pub mod Mapped
 pub mod Taken

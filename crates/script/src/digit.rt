@@ -40,14 +40,5 @@ pub fn hex(word: u32) -> [u8; 8]
     ensures digits { result ≡ hex_of word }
     ensures read_back { WrittenIsRead }
 {
-    [
-        digit_at(word, 28),
-        digit_at(word, 24),
-        digit_at(word, 20),
-        digit_at(word, 16),
-        digit_at(word, 12),
-        digit_at(word, 8),
-        digit_at(word, 4),
-        digit_at(word, 0),
-    ]
+    [28, 24, 20, 16, 12, 8, 4, 0].map(|shift| digit_at(word, shift))
 }

@@ -1,6 +1,19 @@
 -- The eight digits, and the law of reading them back.
+use Rattle.std.proofs.Common.{◌<◌, ◌/◌, ◌%◌, ◌^◌, [], ◌∷◌, arith, rules, tests}
+use Rattle.std.specs.List.{AllByRecursion}
+use Rattle.script.specs.Digits.{hex_digit}
 use Rattle.script.proofs.Lawful.{written_is_read}
+use Rattle.script.proofs.Mapped.{serves_all, array_mapped}
 use Rattle.script.proofs.digit.hex.Goals as goal
 
-pub returns : goal.returns
-returns c = record { digits = cc; read_back = written_is_read }
+pub map-requires : goal.map-requires
+map-requires c =
+    let below : AllByRecursion (λ s. s < 32) (28 ∷ 24 ∷ 20 ∷ 16 ∷ 12 ∷ 8 ∷ 4 ∷ 0 ∷ []) = search rules in
+    (omega arith, (omega arith, (omega arith, serves_all (λ s. s < 32) _ below (λ x q h. let k = h.1 in search (rules, tests)) (λ x small. search (rules, tests)))))
+
+pub returns-clause-digits : goal.returns-clause-digits
+returns-clause-digits c =
+    array_mapped _ _ (λ x. hex_digit (c.args.word / 2 ^ x % 16)) (λ x y q k. search (rules, tests)) _ _ 8 c.map.ensures.items
+
+pub returns-clause-read_back : goal.returns-clause-read_back
+returns-clause-read_back c = written_is_read
