@@ -17,6 +17,7 @@ pub enum ScriptFault {
     TooMany(usize),
 }
 
+// Of a token that cannot be read, its fault is printed.
 impl fmt::Display for ScriptFault {
     ghost output = { λ fault. Some (script_fault_text fault) };
 
@@ -33,7 +34,7 @@ impl fmt::Display for ScriptFault {
 
 impl Error for ScriptFault {}
 
-// A fault is why a script is unreadable.
+// A token that cannot be read makes the script unreadable.
 impl From<Fault> for ScriptFault {
     ghost from_gives = { λ fault e. e ≡ Unreadable fault };
 
@@ -68,6 +69,7 @@ fn fill(text: &[u8], words: &mut [u32])
 }
 
 // Reads a whole script into the memory, and answers how many words it has. A refusal changes nothing.
+#[tactic(auto, using(crate::proofs::Lawful::reading_is_lawful))]
 pub fn read_script(text: &[u8], words: &mut [u32]) -> Result<usize, ScriptFault>
     ensures answer { result ≡ within (length words.old) (counted text.now (reading_of text.now)) }
     ensures memory { words.new ≡ memory_by result (reading_of text.now).words words.old }

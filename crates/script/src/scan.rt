@@ -16,6 +16,7 @@ pub struct Fault {
     pub reason: Reason,
 }
 
+// A fault is printed as where it is and why.
 impl fmt::Display for Fault {
     ghost output = { λ fault. Some (fault_text fault) };
 

@@ -27,11 +27,12 @@ impl Reason {
     }
 }
 
+// A reason is printed as its message.
 impl fmt::Display for Reason {
     ghost output = { λ reason. Some (message_of reason) };
 
     fn fmt<W: fmt::Write>(&self, f: &mut fmt::Formatter<W>) -> fmt::Result {
-        write!(f, "{}", self.message())
+        f.write_str(self.message())
     }
 }
 
@@ -69,6 +70,7 @@ fn value_of(digits: &[u8]) -> Result<u32, Reason>
 }
 
 // The word that a token writes, or why it writes none.
+#[tactic(auto, unfolding(crate::specs::Tokens::word_in))]
 pub fn word_in(token: &[u8]) -> Result<u32, Reason>
     ensures { result ≡ word_in token.now }
 {

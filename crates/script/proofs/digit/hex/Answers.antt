@@ -2,7 +2,6 @@
 use Rattle.std.proofs.Common.{◌<◌, ◌/◌, ◌%◌, ◌^◌, [], ◌∷◌, arith, rules, tests}
 use Rattle.std.specs.List.{AllByRecursion}
 use Rattle.script.specs.Digits.{hex_digit}
-use Rattle.script.proofs.Lawful.{written_is_read}
 use Rattle.script.proofs.Mapped.{serves_all, array_mapped}
 use Rattle.script.proofs.digit.hex.Goals as goal
 
@@ -14,6 +13,3 @@ map-requires c =
 pub returns-clause-digits : goal.returns-clause-digits
 returns-clause-digits c =
     array_mapped _ _ (λ x. hex_digit (c.args.word / 2 ^ x % 16)) (λ x y q k. search (rules, tests)) _ _ 8 c.map.ensures.items
-
-pub returns-clause-read_back : goal.returns-clause-read_back
-returns-clause-read_back c = written_is_read

@@ -5,4 +5,8 @@ use Rattle.script.proofs.token.value_of.Given as goal
 
 abbrev pub invariant-loop-i : goal.invariant-loop-i
 invariant-loop-i l =
-    (l.i ≤ 8) × (l.value < 16 ^ l.i) × (value_after (8 - l.i) l.value (drop l.i l.digits) ≡ value_after 8 0 l.digits)
+    record {
+      room : l.i ≤ 8;
+      small : l.value < 16 ^ l.i;
+      rest : value_after (8 - l.i) l.value (drop l.i l.digits) ≡ value_after 8 0 l.digits;
+    }
