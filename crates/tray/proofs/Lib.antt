@@ -1,3 +1,2 @@
 -- The lemmas that the crate's proofs share.
-pub mod Fronts
 pub mod Found

@@ -1,11 +1,6 @@
 -- What it is to find the first record of a list.
-use Rattle.std.specs.Prelude.{◌≡◌, ℕ, ◌<◌, Bool, cond, List, [], ◌∷◌, length, Some, None, Option, ◌==◌}
+use Rattle.std.specs.Prelude.{◌≡◌, ℕ, ◌<◌, Bool, List, length, Some, None, Option, ◌==◌}
 use Rattle.std.specs.List.{slice_get}
-
--- the first record that passes a test
-abbrev pub first_with : {T : Type 0} → (T → Bool) → List T → Option T
-first_with test [] = None
-first_with test (x ∷ xs) = cond (test x) (Some x) (first_with test xs)
 
 -- the test whether a record has the key k
 abbrev pub with_key : {T : Type 0} → (T → ℕ) → ℕ → T → Bool
@@ -13,7 +8,7 @@ with_key key k x = key x == k
 
 -- of the first n records of the list none is sought
 abbrev pub NoneBefore : {T : Type 0} → (T → Type 0) → List T → ℕ → Type 0
-NoneBefore {T} Sought xs n = (i : ℕ) (y : T) → i < n → slice_get xs i ≡ Some y → Sought y → ⊥
+NoneBefore {T} Sought xs n = (i : ℕ) (y : T) → i < n → slice_get xs i ≡ Some y → ¬ Sought y
 
 -- x is sought, stands at some place of the list, and none before that place is sought
 pub record Earliest {T : Type 0} (Sought : T → Type 0) (xs : List T) (x : T) : Type 0 where

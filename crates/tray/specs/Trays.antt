@@ -14,7 +14,7 @@ lent t = t.memory.now
 abbrev pub lender : {T : Type 0} → Tray T → GName
 lender t = t.memory.ghost_name
 
--- the list: the first records of the memory, as many as are counted (all of them, if the memory is shorter)
+-- the list: the first records of the memory, as many as are counted
 abbrev pub records : {T : Type 0} → Tray T → List T
 records t = take t.count (lent t)
 

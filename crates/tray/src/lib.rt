@@ -1,12 +1,13 @@
 // Lists of records in lent memory: the tray and its methods.
 #![tactic(auto)]
 
-ghost use Rattle.std.specs.Prelude.{◌≡◌, ◌+◌, ◌≤◌, true, [], ◌∷◌, ◌++◌, length, take, drop, replicate, is_ok, is_err, if◌then◌else◌, Ok, Err, nat_lt};
+ghost use Rattle.std.specs.Prelude.{◌≡◌, ◌+◌, ◌≤◌, true, [], ◌∷◌, ◌++◌, length, take, drop, replicate, find, is_ok, is_err, if◌then◌else◌, Ok, Err, Some, codes, nat_lt};
 ghost use Rattle.std.specs.List.{slice_get};
-ghost use Rattle.tray.specs.Finds.{with_key, first_with, FirstWith};
-ghost use Rattle.tray.specs.Trays.{lent, lender, records, beyond, room, answer, last_of, front_of, TakesLast};
+ghost use Rattle.tray.specs.Finds.{with_key, FirstWith};
 
 use keyed::Keyed;
+use std::error::Error;
+use std::fmt;
 use zero::Zero;
 
 pub mod keyed;
@@ -20,15 +21,31 @@ pub enum Refusal {
     Full,
 }
 
-// A list of records in memory that was lent. The first `count` records of the memory are the list (all of them, if the
-// memory is shorter); the memory beyond them is left as it is.
+// A refusal is printed as its reason.
+impl fmt::Display for Refusal {
+    ghost output = { λ _. Some (codes "the tray is full") };
+
+    fn fmt<W: fmt::Write>(&self, f: &mut fmt::Formatter<W>) -> fmt::Result {
+        match self {
+            Refusal::Full => f.write_str("the tray is full"),
+        }
+    }
+}
+
+impl Error for Refusal {}
+
+// A list of records in memory that was lent. The first `count` records of the memory are the list; the memory beyond
+// them is left as it is.
 #[derive(Drop)]
 pub struct Tray<'a, T> {
     memory: &'a mut [T],
     count: usize,
+    ghost within: { count ≤ length memory.now },
 }
 
 impl<'a, T: Copy> Tray<'a, T> {
+    ghost use Rattle.tray.specs.Trays.{lent, lender, records, beyond, room, answer, last_of, front_of, TakesLast};
+
     // An empty list; all of the memory is beyond it, as it came.
     pub fn new(memory: &'a mut [T]) -> Tray<'a, T>
         ensures list { records result ≡ [] }
@@ -39,13 +56,14 @@ impl<'a, T: Copy> Tray<'a, T> {
         Tray::resume(memory, 0)
     }
 
-    // The list of the first `count` records of the memory, as an earlier tray left it there.
+    // The list of the first `count` records of the memory (all of them, if it is shorter), as an earlier tray left it there.
     pub fn resume(memory: &'a mut [T], count: usize) -> Tray<'a, T>
         ensures list { records result ≡ take count memory.old }
         ensures rest { beyond result ≡ drop count memory.old }
         ensures same { lent result ≡ memory.old }
         ensures loan { lender result ≡ memory.entry.ghost_name }
     {
+        let count = count.min(memory.len());
         Tray { memory, count }
     }
 
@@ -54,7 +72,7 @@ impl<'a, T: Copy> Tray<'a, T> {
         ensures count { result ≡ length (records self.now) }
         ensures within { result ≤ length (lent self.now) }
     {
-        self.count.min(self.capacity())
+        self.count
     }
 
     // How many records the memory has place for.
@@ -68,8 +86,7 @@ impl<'a, T: Copy> Tray<'a, T> {
     pub fn as_slice(&self) -> &[T]
         ensures { result.now ≡ records self.now }
     {
-        let n = self.len();
-        &self.memory[0..n]
+        &self.memory[..self.count]
     }
 
     // The record at place i, counted from 0.
@@ -83,15 +100,10 @@ impl<'a, T: Copy> Tray<'a, T> {
     pub fn find(&self, key: u64) -> Option<T>
     where
         T: Keyed,
-        ensures value { result ≡ first_with (with_key T.Keyed.key key) (records self.now) }
+        ensures value { result ≡ find (with_key T.Keyed.key key) (records self.now) }
         ensures first { FirstWith (λ x. T.Keyed.key x ≡ key) (records self.now) result }
     {
-        for x in self.as_slice() {
-            if x.key() == key {
-                return Some(*x);
-            }
-        }
-        None
+        self.as_slice().iter().find(|x| x.key() == key).copied()
     }
 
     // Puts a record at the end of the list. A full tray refuses it, and stays as it is.
@@ -102,12 +114,11 @@ impl<'a, T: Copy> Tray<'a, T> {
         ensures refused { is_err result ≡ true → self.new ≡ self.old }
         ensures loan { lender self.new ≡ lender self.old }
     {
-        let n = self.len();
-        if n >= self.capacity() {
+        if self.count >= self.capacity() {
             return Err(Refusal::Full);
         }
-        self.memory[n] = item;
-        self.count = n + 1;
+        self.memory[self.count] = item;
+        self.count += 1;
         Ok(())
     }
 
@@ -119,10 +130,9 @@ impl<'a, T: Copy> Tray<'a, T> {
         ensures same { lent self.new ≡ lent self.old }
         ensures loan { lender self.new ≡ lender self.old }
     {
-        let last = self.len().saturating_sub(1);
-        let item = self.get(last);
+        let last = self.count.checked_sub(1)?;
         self.count = last;
-        item
+        Some(self.memory[last])
     }
 
     // Makes every record beyond the list zero.
@@ -133,8 +143,7 @@ impl<'a, T: Copy> Tray<'a, T> {
         ensures rest { beyond self.new ≡ replicate (length (beyond self.old)) T.Zero.zero }
         ensures loan { lender self.new ≡ lender self.old }
     {
-        let n = self.len();
-        zero::fill(&mut self.memory[n..]);
+        zero::fill(&mut self.memory[self.count..]);
     }
 
     // Empties the list, and makes every record of the memory zero.
@@ -154,17 +163,14 @@ impl<'a, T: Copy> Tray<'a, T> {
         ensures count { result ≡ length (records self.entry) }
         ensures lands { self.exit.0.now ≡ records self.entry ++ beyond self.entry }
     {
-        let held = self.len();
-        let Tray {
-            memory: _,
-            count: _,
-        } = self;
-        held
+        let Tray { memory: _, count } = self;
+        count
     }
 }
 
 // Puts a record at the end of the list of `count` records in lent memory, and answers how many there are then. The
 // lender's memory is the longer list, and then what was beyond it. Memory that is full stays as it is.
+// The memory and the count stay two: the caller lends the memory anew at each call, and keeps the count between calls.
 pub fn append<T: Copy>(memory: &mut [T], count: usize, item: T) -> Result<usize, Refusal>
     ensures answers { result ≡ (if nat_lt count (length memory.old) then Ok (count + 1) else Err Refusal.Full) }
     ensures after { memory.new ≡ (if is_ok result then take count memory.old ++ item ∷ drop (count + 1) memory.old else memory.old) }

@@ -2,6 +2,7 @@
 ghost use Rattle.std.specs.Prelude.{◌≡◌, length, replicate};
 
 // A record that has a zero: the record whose every number is 0.
+// Not std's `Default`: the project wants a failing edit for each zero, so the zeros are code of its own.
 pub trait Zero: Sized {
     // What the zero is.
     ghost zero: { Self };
@@ -15,9 +16,9 @@ pub trait Zero: Sized {
 pub fn fill<T: Copy + Zero>(memory: &mut [T])
     ensures { memory.new ≡ replicate (length memory.old) T.Zero.zero }
 {
-    for x in memory.iter_mut() {
-        *x = T::zero();
-    }
+    // Not by std's `fill`: that asks more of T, namely that a clone is the record itself.
+    let zero = T::zero();
+    memory.fill_with(|| zero);
 }
 
 // A byte is zero as the number 0.

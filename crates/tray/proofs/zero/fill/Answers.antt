@@ -1,10 +1,15 @@
 -- `fill` makes every record zero.
-use Rattle.std.proofs.Common.{◌∙◌, arith}
-use Rattle.tray.proofs.Fronts.{fill_more, fill_all}
+use Rattle.std.proofs.Common.{◌≡◌, List, [], ◌∷◌, length, replicate, refl, ap, subst, ◌∙◌, rules, tests}
+use Rattle.std.specs.List.{FoldsTo}
 use Rattle.tray.proofs.zero.fill.Goals as goal
 
-pub loop-x-preserved : goal.loop-x-preserved
-loop-x-preserved g c = rw (c.zero.ensures, c.loop-x.invariant) (fill_more c.args.memory.now c.loop-x.x-index g.T.Zero.zero (omega arith))
+-- what calls made that each give y and keep the state
+made_replicate : {P T : Type 0} (R : P → T → P → Type 0) (f : P) (y : T) → ((x : T) (q : P) → R f x q → (q ≡ f) × (x ≡ y)) → (xs : List T) (last : P) → FoldsTo R f xs last → xs ≡ replicate (length xs) y
+made_replicate R f y gives [] last r = refl
+made_replicate R f y gives (x ∷ xs) last (q, c, rest) =
+    let g = gives x q c in
+    rw g.1 (ap (λ zs. y ∷ zs) (made_replicate R f y gives xs last (subst (λ p. FoldsTo R p xs last) g.0 rest)))
 
 pub returns : goal.returns
-returns g c = c.loop-x.invariant ∙ fill_all c.args.memory.now c.loop-x.x-index g.T.Zero.zero (omega arith)
+returns g c =
+    made_replicate _ _ g.T.Zero.zero (λ x q k. search (rules, tests)) _ _ c.fill_with.ensures.ran.1 ∙ ap (λ n. replicate n g.T.Zero.zero) c.fill_with.ensures.len
