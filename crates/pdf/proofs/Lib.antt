@@ -2,12 +2,11 @@
 pub mod Runs
 pub mod Numbers
 pub mod Tokens
-pub mod Shorter
+pub mod Lexing
 pub mod Taking
 pub mod Steps
 pub mod Follows
 pub mod Values
-pub mod Strict
 pub mod StrictValues
 pub mod Blocks
 pub mod Samples
