@@ -1,8 +1,8 @@
 -- Steps through arrays and dictionaries, where what stands there was read.
-use Rattle.std.proofs.Common.{◌≡◌, ℕ, zero, suc, true, List, ◌++◌, ℤ, pos, negsuc, Some, None, codes, Option, refl, ap, ◌∙◌, arith}
+use Rattle.std.proofs.Common.{◌≡◌, ℕ, zero, suc, true, List, ◌++◌, ℤ, pos, Some, None, codes, refl, ap, arith}
 use Rattle.pdf.specs.Bytes.{stops}
 use Rattle.pdf.specs.Tokens.{Token, int, name, word, array_close, token, written, writable}
-use Rattle.pdf.specs.Values.{Value, number, ref, Values, ◌◂◌, Entries, entry, then, word_r, ref_after, number_or_ref, leaf, one, item_at, item, on_item, items, keyed, field_from, field, on_field, entries, opens, nothing, value_at, value}
+use Rattle.pdf.specs.Values.{Value, number, ref, Values, ◌◂◌, Entries, entry, word_r, ref_after, number_or_ref, leaf, one, item_at, item, items, field, entries, opens, nothing, value_at, value}
 use Rattle.pdf.proofs.Tokens.{tokens_read_back}
 
 -- A token that opens nothing is read the same at every depth.

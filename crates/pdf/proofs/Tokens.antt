@@ -1,10 +1,10 @@
 -- Tokens that are written are read back, and gaps in front of them do not matter.
-use Rattle.std.proofs.Common.{◌≡◌, ℕ, ◌+◌, ◌<◌, true, false, not, List, [], ◌∷◌, ◌++◌, length, ℤ, Some, None, codes, Option, refl, ap, ◌∙◌, append_assoc, arith}
+use Rattle.std.proofs.Common.{◌≡◌, ℕ, ◌<◌, true, List, [], ◌∷◌, ◌++◌, length, Some, refl, ap, ◌∙◌, append_assoc, arith}
 use Rattle.std.specs.Fmt.{signed_decimal}
 use Rattle.std.proofs.lemmas.Bool.Decides.{nat_tests}
 use Rattle.pdf.specs.Bytes.{white, line_end, regular, name_byte, each, stops}
 use Rattle.pdf.specs.Numbers.{integer}
-use Rattle.pdf.specs.Tokens.{int, name, word, text, array_open, array_close, dict_open, dict_close, skip, skip_from, kind_of, plain, among_plain, body, as_text, as_name, word_is, lex_by, lex, token, escaped}
+use Rattle.pdf.specs.Tokens.{int, name, word, text, array_open, array_close, dict_open, dict_close, skip, skip_from, plain, among_plain, body, word_is, lex_by, lex, token, escaped}
 use Rattle.pdf.specs.Values.{value, value_at, then}
 use Rattle.pdf.specs.Laws.{TokensReadBack, GapsDoNotMatter, in_line}
 use Rattle.pdf.proofs.Runs.{front_is, past_is, each_wider, name_regular}
