@@ -1,12 +1,11 @@
 -- A word is refused by the first condition that holds.
-use Rattle.std.proofs.Common.{◌≡◌, ℕ, ◌+◌, ◌<◌, ◌≤◌, Bool, true, false, leb, length, Some, None, Ok, Err, Option, Result, sym, refl, ap, ◌∙◌, subst, ⊎_elim, arith}
-use Rattle.std.proofs.lemmas.Bool.{cases_lt, leb-false}
+use Rattle.std.proofs.Common.{◌≡◌, ℕ, ◌<◌, ◌≤◌, Bool, true, false, length, Some, None, Ok, Err, Option, Result, refl, ap, ⊎_elim, arith}
+use Rattle.std.proofs.lemmas.Bool.{cases_lt, lt-leb, leb-false}
 use Rattle.std.proofs.lemmas.Bool.Decides.{nat_tests}
 use Rattle.std.specs.Option.{option_map}
 use Rattle.page.specs.declared.types.Refusal.{Refusal}
 use Rattle.page.specs.declared.types.Refusal.TheVariants as refusal
 use Rattle.page.specs.declared.types.Word.{Word}
-use Rattle.page.specs.declared.types.Word.TheVariants as word
 use Rattle.page.specs.Numbers.{highest_kind}
 use Rattle.page.specs.Fields.{kind_of}
 use Rattle.page.specs.Decoded.{decoded}
@@ -14,83 +13,58 @@ use Rattle.page.specs.Laws.{Refusals}
 use Rattle.page.proofs.Ways.{refusals}
 use Rattle.sheet.specs.declared.refusals.WordRefusal.{WordRefusal}
 use Rattle.sheet.specs.declared.refusals.WordRefusal.TheVariants.{NotTaken, NoElement, Limit, Outside, NoRoom}
-use Rattle.sheet.specs.Layout.{so_far}
 use Rattle.sheet.specs.Refusals.{word_number}
-use Rattle.sheet.specs.Run.{judged, is_taken, is_known, is_within, is_inside, fits, reserve}
+use Rattle.sheet.specs.Run.{judged, is_taken, is_known, is_within, is_inside, fits}
 use Rattle.sheet.specs.Sheet.{Sheet, sheet_after}
-use Rattle.sheet.proofs.Limits.{not_above, within_passes_none, beyond_passes_one}
-use Rattle.sheet.proofs.Places.{inside_moves_none, outside_moves_one}
-use Rattle.sheet.specs.Conditions.{NoSuchKind, PayloadOutside, element_named, Condition, refused_by, NoneLower, RefusedByTheFirstCondition, ObeyedWithoutCondition}
+use Rattle.sheet.proofs.Limits.{passed_is_beyond, beyond_passes_one}
+use Rattle.sheet.proofs.Places.{moved_is_outside, outside_moves_one}
+use Rattle.sheet.specs.Conditions.{element_named, Condition, refused_by, NoneLower, RefusedByTheFirstCondition, ObeyedWithoutCondition}
 use Rattle.sheet.specs.Conditions.Condition.{no_such_kind, payload_outside, not_taken, no_such_element, limit_passed, place_outside, room_below_reserve}
 
--- What an answer says of the conditions.
-abbrev Answered : ℕ → Sheet → ℕ → Option ℕ → Type 0
-Answered room s w None = (m : ℕ) → Condition m room s w → ⊥
-Answered room s w (Some n) = Condition n room s w × NoneLower n room s w
+-- the test of the number m fails, of the five that a word must pass
+data Failed (m : ℕ) (t k l i f : Bool) : Type 0 where
+  untaken : m ≡ 12 → t ≡ false → Failed m t k l i f
+  unknown : m ≡ 13 → k ≡ false → Failed m t k l i f
+  beyond : m ≡ 14 → l ≡ false → Failed m t k l i f
+  outside : m ≡ 15 → i ≡ false → Failed m t k l i f
+  unfit : m ≡ 16 → f ≡ false → Failed m t k l i f
 
--- every condition has a number from 10 to 16
-numbered : (n room : ℕ) (s : Sheet) (w : ℕ) → Condition n room s w → (10 ≤ n) × (n < 17)
-numbered n room s w (no_such_kind e h) = (omega arith, omega arith)
-numbered n room s w (payload_outside e h) = (omega arith, omega arith)
-numbered n room s w (not_taken e h) = (omega arith, omega arith)
-numbered n room s w (no_such_element e h) = (omega arith, omega arith)
-numbered n room s w (limit_passed e h) = (omega arith, omega arith)
-numbered n room s w (place_outside e h) = (omega arith, omega arith)
-numbered n room s w (room_below_reserve e h) = (omega arith, omega arith)
+-- a word fails the test of the number m
+abbrev Fails : ℕ → ℕ → Sheet → Word → Type 0
+Fails m room s x = Failed m (is_taken s x) (is_known s x) (is_within s x) (is_inside s x) (fits room (sheet_after s x))
 
--- an element is known exactly if none above the last is named
-zero_low : (n : ℕ) → true ≡ leb 0 n
-zero_low n = grind (arith, nat_tests)
+-- an element is unknown exactly if it is above the last
+above_is_unknown : (s : Sheet) (x : Word) → length s.drawing.tree.elements < element_named x → is_known s x ≡ false
+above_is_unknown s x h = grind (arith, nat_tests)
 
-known : (s : Sheet) (x : Word) → is_known s x ≡ leb (element_named x) (length s.drawing.tree.elements)
-known s (word.Page width height) = zero_low (length s.drawing.tree.elements)
-known s word.Close = zero_low (length s.drawing.tree.elements)
-known s (word.Element parent role) = refl
-known s (word.Mark e) = refl
-known s word.Save = zero_low (length s.drawing.tree.elements)
-known s (word.Origin a b) = zero_low (length s.drawing.tree.elements)
-known s (word.Turn quarters) = zero_low (length s.drawing.tree.elements)
-known s (word.Pen a b) = zero_low (length s.drawing.tree.elements)
-known s (word.Line a b) = zero_low (length s.drawing.tree.elements)
-known s (word.Paint operator) = zero_low (length s.drawing.tree.elements)
-known s (word.Text size) = zero_low (length s.drawing.tree.elements)
-known s (word.Place a b) = zero_low (length s.drawing.tree.elements)
-known s (word.Show codes) = zero_low (length s.drawing.tree.elements)
+unknown_is_above : (s : Sheet) (x : Word) → is_known s x ≡ false → length s.drawing.tree.elements < element_named x
+unknown_is_above s x t = grind (arith, nat_tests)
 
--- bits say one word
-same_word : (w : ℕ) (x y : Word) → decoded w ≡ Ok x → decoded w ≡ Ok y → x ≡ y
-same_word w x y d e = let both : ◌≡◌ {A = Result Word Refusal} (Ok x) (Ok y) = sym d ∙ e in cc
+-- a condition holds of the bits of a word exactly if the word fails its test
+fails : (m room : ℕ) (s : Sheet) (w : ℕ) (x : Word) → decoded w ≡ Ok x → Refusals w (Ok x) → Condition m room s w → Fails m room s x
+fails m room s w x d r (no_such_kind e h) = let k = r.by_kind.1 h in cc
+fails m room s w x d r (payload_outside e h) = ⊎_elim (λ high. let k = r.by_kind.1 high in cc) (λ low. let k = r.by_payload.1 (low, h) in cc) (cases_lt highest_kind (kind_of w))
+fails m room s w x d r (not_taken e (y, d', h)) = let same : y ≡ x = cc in untaken e (rw same at h)
+fails m room s w x d r (no_such_element e (y, d', h)) = let same : y ≡ x = cc in unknown e (above_is_unknown s x (rw same at h))
+fails m room s w x d r (limit_passed e (y, d', h)) = let same : y ≡ x = cc in beyond e (passed_is_beyond s x (rw same at h))
+fails m room s w x d r (place_outside e (y, d', h)) = let same : y ≡ x = cc in outside e (moved_is_outside s x (rw same at h))
+fails m room s w x d r (room_below_reserve e (y, d', h)) = let same : y ≡ x = cc in unfit e (lt-leb _ room (rw same at h))
 
-clash : {b : Bool} → b ≡ true → b ≡ false → ⊥
-clash t f = let z : ◌≡◌ {A = ℕ} 0 1 = cc in absurd (omega arith)
+holds : (m room : ℕ) (s : Sheet) (w : ℕ) (x : Word) → decoded w ≡ Ok x → Fails m room s x → Condition m room s w
+holds m room s w x d (untaken e t) = not_taken e (x, d, t)
+holds m room s w x d (unknown e t) = no_such_element e (x, d, unknown_is_above s x t)
+holds m room s w x d (beyond e t) = limit_passed e (x, d, beyond_passes_one s x t)
+holds m room s w x d (outside e t) = place_outside e (x, d, outside_moves_one s x t)
+holds m room s w x d (unfit e t) = room_below_reserve e (x, d, leb-false _ room t)
 
--- bits that say a word have a kind and a payload in its range
-kind_known : (w : ℕ) (x : Word) → Refusals w (Ok x) → NoSuchKind w → ⊥
-kind_known w x r h = let e = r.by_kind.1 h in let z : ◌≡◌ {A = ℕ} 0 1 = cc in absurd (omega arith)
+-- What an answer says of the numbers for which something holds: the first is answered, or there is none.
+abbrev IsFirst : (ℕ → Type 0) → Option ℕ → Type 0
+IsFirst P None = (m : ℕ) → P m → ⊥
+IsFirst P (Some n) = P n × ((m : ℕ) → m < n → P m → ⊥)
 
-payload_inside : (w : ℕ) (x : Word) → Refusals w (Ok x) → PayloadOutside w → ⊥
-payload_inside w x r h =
-    ⊎_elim (λ high. kind_known w x r high)
-    (λ low. let e = r.by_payload.1 (low, h) in let z : ◌≡◌ {A = ℕ} 0 1 = cc in absurd (omega arith))
-    (cases_lt highest_kind (kind_of w))
-
--- no condition below n holds of a word that passes the tests below n
-none_below :
-    (n room : ℕ) (s : Sheet) (w : ℕ) (x : Word) → decoded w ≡ Ok x → Refusals w (Ok x)
-    → (12 < n → is_taken s x ≡ true) → (13 < n → is_known s x ≡ true) → (14 < n → is_within s x ≡ true) → (15 < n → is_inside s x ≡ true) → (16 < n → fits room (sheet_after s x) ≡ true)
-    → NoneLower n room s w
-none_below n room s w x d r taken known' within inside room' m low (no_such_kind e h) = kind_known w x r h
-none_below n room s w x d r taken known' within inside room' m low (payload_outside e h) = payload_inside w x r h
-none_below n room s w x d r taken known' within inside room' m low (not_taken e (y, d', h)) =
-    clash (taken (omega arith)) (ap (is_taken s) (same_word w x y d d') ∙ h)
-none_below n room s w x d r taken known' within inside room' m low (no_such_element e (y, d', h)) =
-    not_above (element_named y) (length s.drawing.tree.elements) (sym (known s y) ∙ ap (is_known s) (same_word w y x d' d) ∙ known' (omega arith)) h
-none_below n room s w x d r taken known' within inside room' m low (limit_passed e (y, d', h)) =
-    within_passes_none s y (ap (is_within s) (same_word w y x d' d) ∙ within (omega arith)) h
-none_below n room s w x d r taken known' within inside room' m low (place_outside e (y, d', h)) =
-    inside_moves_none s y (ap (is_inside s) (same_word w y x d' d) ∙ inside (omega arith)) h
-none_below n room s w x d r taken known' within inside room' m low (room_below_reserve e (y, d', h)) =
-    not_above (length (so_far (sheet_after s y)) + reserve (sheet_after s y)) room (ap (λ z. fits room (sheet_after s z)) (same_word w y x d' d) ∙ room' (omega arith)) h
+is_first-like : (P Q : ℕ → Type 0) → ((m : ℕ) → P m → Q m) → ((m : ℕ) → Q m → P m) → (o : Option ℕ) → IsFirst P o → IsFirst Q o
+is_first-like P Q to from None a = λ m q. a m (from m q)
+is_first-like P Q to from (Some n) a = (to n a.0, λ m low q. a.1 m low (from m q))
 
 -- why a word is refused, by the five tests
 abbrev by_tests : Bool → Bool → Bool → Bool → Bool → Option WordRefusal
@@ -113,70 +87,35 @@ by_tests t k l i f =
           ]
     ]
 
-answered_by_tests :
-    (room : ℕ) (s : Sheet) (w : ℕ) (x : Word) → decoded w ≡ Ok x → Refusals w (Ok x)
-    → (t k l i f : Bool) → is_taken s x ≡ t → is_known s x ≡ k → is_within s x ≡ l → is_inside s x ≡ i → fits room (sheet_after s x) ≡ f
-    → Answered room s w (option_map word_number (by_tests t k l i f))
-answered_by_tests room s w x d r false k l i f et ek el ei ef = (
-  not_taken refl (x, d, et),
-  none_below 12 room s w x d r (λ b. absurd (omega arith)) (λ b. absurd (omega arith)) (λ b. absurd (omega arith)) (λ b. absurd (omega arith)) (λ b. absurd (omega arith)),
-)
-answered_by_tests room s w x d r true false l i f et ek el ei ef = (
-  no_such_element refl (x, d, leb-false (element_named x) (length s.drawing.tree.elements) (sym (known s x) ∙ ek)),
-  none_below 13 room s w x d r (λ _. et) (λ b. absurd (omega arith)) (λ b. absurd (omega arith)) (λ b. absurd (omega arith)) (λ b. absurd (omega arith)),
-)
-answered_by_tests room s w x d r true true false i f et ek el ei ef =
-    (limit_passed refl (x, d, beyond_passes_one s x el), none_below 14 room s w x d r (λ _. et) (λ _. ek) (λ b. absurd (omega arith)) (λ b. absurd (omega arith)) (λ b. absurd (omega arith)))
-answered_by_tests room s w x d r true true true false f et ek el ei ef =
-    (place_outside refl (x, d, outside_moves_one s x ei), none_below 15 room s w x d r (λ _. et) (λ _. ek) (λ _. el) (λ b. absurd (omega arith)) (λ b. absurd (omega arith)))
-answered_by_tests room s w x d r true true true true false et ek el ei ef = (
-  room_below_reserve refl (x, d, leb-false (length (so_far (sheet_after s x)) + reserve (sheet_after s x)) room ef),
-  none_below 16 room s w x d r (λ _. et) (λ _. ek) (λ _. el) (λ _. ei) (λ b. absurd (omega arith)),
-)
-answered_by_tests room s w x d r true true true true true et ek el ei ef =
-    λ m h. none_below 17 room s w x d r (λ _. et) (λ _. ek) (λ _. el) (λ _. ei) (λ _. ef) m (numbered m room s w h).1 h
+first_failed : (t k l i f : Bool) → IsFirst (λ m. Failed m t k l i f) (option_map word_number (by_tests t k l i f))
+first_failed t k l i f = grind (arith, untaken, unknown, beyond, outside, unfit)
 
 -- only the kind's condition has a number below the payload's, and none has one below the kind's
 none_below_kind : (room : ℕ) (s : Sheet) (w : ℕ) → NoneLower 10 room s w
-none_below_kind room s w m low h = let n = numbered m room s w h in absurd (omega arith)
+none_below_kind room s w m low c = grind arith
 
 none_below_payload : (room : ℕ) (s : Sheet) (w : ℕ) → kind_of w ≤ highest_kind → NoneLower 11 room s w
-none_below_payload room s w k m low (no_such_kind e h) = absurd (omega arith)
-none_below_payload room s w k m low (payload_outside e h) = absurd (omega arith)
-none_below_payload room s w k m low (not_taken e h) = absurd (omega arith)
-none_below_payload room s w k m low (no_such_element e h) = absurd (omega arith)
-none_below_payload room s w k m low (limit_passed e h) = absurd (omega arith)
-none_below_payload room s w k m low (place_outside e h) = absurd (omega arith)
-none_below_payload room s w k m low (room_below_reserve e h) = absurd (omega arith)
+none_below_payload room s w k m low c = grind arith
 
-answered_by_bits : (room : ℕ) (s : Sheet) (w : ℕ) (r : Result Word Refusal) → decoded w ≡ r → Refusals w r → Answered room s w (option_map word_number (judged room s r))
+answered_by_bits : (room : ℕ) (s : Sheet) (w : ℕ) (r : Result Word Refusal) → decoded w ≡ r → Refusals w r → IsFirst (λ m. Condition m room s w) (option_map word_number (judged room s r))
 answered_by_bits room s w (Err refusal.Kind) d r = (no_such_kind refl (r.by_kind.0 refl), none_below_kind room s w)
-answered_by_bits room s w (Err refusal.Payload) d r =
-    let h = r.by_payload.0 refl in
-    (payload_outside refl h.1, none_below_payload room s w h.0)
-answered_by_bits room s w (Ok x) d r =
-    answered_by_tests room s w x d r (is_taken s x) (is_known s x) (is_within s x) (is_inside s x) (fits room (sheet_after s x)) refl refl refl refl refl
+answered_by_bits room s w (Err refusal.Payload) d r = let h = r.by_payload.0 refl in (payload_outside refl h.1, none_below_payload room s w h.0)
+answered_by_bits room s w (Ok x) d r = is_first-like (λ m. Fails m room s x) (λ m. Condition m room s w) (λ m. holds m room s w x d) (λ m. fails m room s w x d r) _ (first_failed (is_taken s x) (is_known s x) (is_within s x) (is_inside s x) (fits room (sheet_after s x)))
 
-answered : (room : ℕ) (s : Sheet) (w : ℕ) → Answered room s w (refused_by room s w)
+answered : (room : ℕ) (s : Sheet) (w : ℕ) → IsFirst (λ m. Condition m room s w) (refused_by room s w)
 answered room s w = answered_by_bits room s w (decoded w) refl (refusals w)
 
--- the first condition is one
-first_by : (room : ℕ) (s : Sheet) (w n : ℕ) (o : Option ℕ) → Answered room s w o → Condition n room s w → NoneLower n room s w → o ≡ Some n
-first_by room s w n None none h low = absurd (none n h)
-first_by room s w n (Some k) (g, below) h low =
-    ⊎_elim (λ less. absurd (low k less g)) (λ up. ⊎_elim (λ more. absurd (below n more h)) (λ down. ap Some (omega arith)) (cases_lt n k)) (cases_lt k n)
+-- the first is one
+first_is_one : (P : ℕ → Type 0) (n : ℕ) (o : Option ℕ) → IsFirst P o → P n → ((m : ℕ) → m < n → P m → ⊥) → o ≡ Some n
+first_is_one P n None a h low = absurd (a n h)
+first_is_one P n (Some k) a h low = ⊎_elim (λ less. absurd (low k less a.0)) (λ up. ⊎_elim (λ more. absurd (a.1 n more h)) (λ down. ap Some (omega arith)) (cases_lt n k)) (cases_lt k n)
 
-holds_by : (room : ℕ) (s : Sheet) (w n : ℕ) (o : Option ℕ) → Answered room s w o → o ≡ Some n → Condition n room s w × NoneLower n room s w
-holds_by room s w n o a e = subst (λ z. Answered room s w z) e a
+first_is_none : (P : ℕ → Type 0) (o : Option ℕ) → IsFirst P o → ((n : ℕ) → P n → ⊥) → o ≡ None
+first_is_none P None a none = refl
+first_is_none P (Some n) a none = absurd (none n a.0)
 
 pub refused_by_the_first : RefusedByTheFirstCondition
-refused_by_the_first room s w n =
-    (holds_by room s w n (refused_by room s w) (answered room s w), λ h. first_by room s w n (refused_by room s w) (answered room s w) h.0 h.1)
-
--- where no condition holds there is no refusal
-none_by : (room : ℕ) (s : Sheet) (w : ℕ) (o : Option ℕ) → Answered room s w o → ((n : ℕ) → Condition n room s w → ⊥) → o ≡ None
-none_by room s w None a none = refl
-none_by room s w (Some n) a none = absurd (none n a.0)
+refused_by_the_first room s w n = (λ e. rw e at (answered room s w), λ h. first_is_one (λ m. Condition m room s w) n (refused_by room s w) (answered room s w) h.0 h.1)
 
 pub obeyed_without : ObeyedWithoutCondition
-obeyed_without room s w = (λ e. subst (λ z. Answered room s w z) e (answered room s w), none_by room s w (refused_by room s w) (answered room s w))
+obeyed_without room s w = (λ e. rw e at (answered room s w), first_is_none (λ m. Condition m room s w) (refused_by room s w) (answered room s w))

