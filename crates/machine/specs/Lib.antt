@@ -1,4 +1,5 @@
 -- The definitions of the page machine, file by file.
+pub mod Refusals
 pub mod Axes
 pub mod Stack
 pub mod State

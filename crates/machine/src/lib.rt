@@ -4,6 +4,7 @@
 mod drawing;
 mod machine;
 mod places;
+mod refusals;
 mod stack;
 mod steps;
 #[cfg(test)]
@@ -12,6 +13,7 @@ mod types;
 
 pub use drawing::{glyph_at, paint, point_at};
 pub use machine::Machine;
+pub use refusals::Refusal;
 pub use stack::is_taken;
 pub use steps::step_of;
 pub use types::{Axes, Counts, Drawn, Letter, Numbers, Open, Step, TextLine};

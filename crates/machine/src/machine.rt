@@ -1,13 +1,16 @@
 // The machine: its numbers, and the methods that change them.
-ghost use Rattle.std.specs.Prelude.{◌≡◌, ◌*◌, ◌≤◌, true, is_some, if◌then◌else◌, nat_lt};
+ghost use Rattle.std.specs.Prelude.{◌≡◌, ◌*◌, ◌≤◌, true, is_ok, if◌then◌else◌, nat_lt};
 ghost use Rattle.machine.specs.Axes.{axes_inside, shifted};
 ghost use Rattle.machine.specs.Laws.{EvenlySpaced, Multiplied, shift_by, turn_by};
+ghost use Rattle.machine.specs.Refusals.{allowed};
 ghost use Rattle.machine.specs.State.{Does, glyph_at, glyph_set, line_inside, most_drawn, most_marks, most_pages, no_numbers, one_drawn, placed, point_at, with_axes};
-ghost use Rattle.page.specs.Numbers.{provided};
+ghost use Rattle.machine.specs.declared.refusals.Refusal.TheVariants.{Limit, Outside};
 
 use crate::drawing::{glyph_at, point_at};
 use crate::places::{moved_start, shifted_offset};
+use crate::refusals::Refusal;
 use crate::types::{Axes, Counts, Drawn, Letter, Numbers, Step, TextLine};
+use limits::one_more;
 
 mod limits;
 
@@ -71,35 +74,28 @@ impl Machine {
     }
 
     // Starts a page, if there is one left.
-    pub fn start_page(&mut self) -> bool
-        ensures answer { result ≡ nat_lt self.old.numbers.counts.pages most_pages }
-        ensures after { Does Step.Page result self.old.numbers self.new.numbers }
+    pub fn start_page(&mut self) -> Result<(), Refusal>
+        ensures answer { result ≡ allowed (nat_lt self.old.numbers.counts.pages most_pages) Limit tt }
+        ensures after { Does Step.Page (is_ok result) self.old.numbers self.new.numbers }
     {
-        if self.numbers.counts.pages >= MOST_PAGES {
-            return false;
-        }
-        self.numbers.counts.pages += 1;
+        self.numbers.counts.pages = one_more(self.numbers.counts.pages, MOST_PAGES)?;
         self.numbers.axes = Axes {
             turn: 0,
             x: 0,
             y: 0,
         };
-        true
+        Ok(())
     }
 
     // Starts a mark, if it is an artifact or there is one left.
-    pub fn start_mark(&mut self, owned: bool) -> bool
-        ensures answer { result ≡ (if owned then nat_lt self.old.numbers.counts.marks most_marks else true) }
-        ensures after { Does (Step.Mark owned) result self.old.numbers self.new.numbers }
+    pub fn start_mark(&mut self, owned: bool) -> Result<(), Refusal>
+        ensures answer { result ≡ allowed (if owned then nat_lt self.old.numbers.counts.marks most_marks else true) Limit tt }
+        ensures after { Does (Step.Mark owned) (is_ok result) self.old.numbers self.new.numbers }
     {
-        if !owned {
-            return true;
+        if owned {
+            self.numbers.counts.marks = one_more(self.numbers.counts.marks, MOST_MARKS)?;
         }
-        if self.numbers.counts.marks >= MOST_MARKS {
-            return false;
-        }
-        self.numbers.counts.marks += 1;
-        true
+        Ok(())
     }
 
     // Moves the origin, if the offset is then within its range.
@@ -165,44 +161,47 @@ impl Machine {
     }
 
     // Sets one glyph and advances, if there is one left.
-    pub fn glyph(&mut self, code: u8) -> Option<Drawn>
-        ensures answer { result ≡ provided (nat_lt self.old.numbers.counts.drawn most_drawn) (glyph_at self.old.numbers code) }
-        ensures after { self.new.numbers ≡ (if is_some result then glyph_set self.old.numbers else self.old.numbers) }
+    pub fn glyph(&mut self, code: u8) -> Result<Drawn, Refusal>
+        ensures answer { result ≡ allowed (nat_lt self.old.numbers.counts.drawn most_drawn) Limit (glyph_at self.old.numbers code) }
+        ensures after { self.new.numbers ≡ (if is_ok result then glyph_set self.old.numbers else self.old.numbers) }
     {
-        if self.numbers.counts.drawn >= MOST_DRAWN {
-            return None;
-        }
+        self.count_drawn()?;
         let drawn = glyph_at(self.numbers, code);
         self.numbers.line.advance += 6 * u32::from(self.numbers.line.size);
-        self.numbers.counts.drawn += 1;
-        Some(drawn)
+        Ok(drawn)
     }
 
     // Sets the point that a path goes on from, if there is one left.
-    pub fn pen_to(&mut self, a: i32, b: i32) -> Option<Drawn>
-        ensures answer { result ≡ provided (nat_lt self.old.numbers.counts.drawn most_drawn) (point_at Letter.Move self.old.numbers.axes a b) }
-        ensures after { Does (Step.Pen a b) (is_some result) self.old.numbers self.new.numbers }
+    pub fn pen_to(&mut self, a: i32, b: i32) -> Result<Drawn, Refusal>
+        ensures answer { result ≡ allowed (nat_lt self.old.numbers.counts.drawn most_drawn) Limit (point_at Letter.Move self.old.numbers.axes a b) }
+        ensures after { Does (Step.Pen a b) (is_ok result) self.old.numbers self.new.numbers }
     {
         self.point(Letter::Move, a, b)
     }
 
     // Sets the point that a line goes to, if there is one left.
-    pub fn line_to(&mut self, a: i32, b: i32) -> Option<Drawn>
-        ensures answer { result ≡ provided (nat_lt self.old.numbers.counts.drawn most_drawn) (point_at Letter.Line self.old.numbers.axes a b) }
-        ensures after { Does (Step.Line a b) (is_some result) self.old.numbers self.new.numbers }
+    pub fn line_to(&mut self, a: i32, b: i32) -> Result<Drawn, Refusal>
+        ensures answer { result ≡ allowed (nat_lt self.old.numbers.counts.drawn most_drawn) Limit (point_at Letter.Line self.old.numbers.axes a b) }
+        ensures after { Does (Step.Line a b) (is_ok result) self.old.numbers self.new.numbers }
     {
         self.point(Letter::Line, a, b)
     }
 
     // Sets a point of a path, if there is one left.
-    fn point(&mut self, shape: Letter, a: i32, b: i32) -> Option<Drawn>
-        ensures answer { result ≡ provided (nat_lt self.old.numbers.counts.drawn most_drawn) (point_at shape self.old.numbers.axes a b) }
-        ensures after { self.new.numbers ≡ (if is_some result then one_drawn self.old.numbers else self.old.numbers) }
+    fn point(&mut self, shape: Letter, a: i32, b: i32) -> Result<Drawn, Refusal>
+        ensures answer { result ≡ allowed (nat_lt self.old.numbers.counts.drawn most_drawn) Limit (point_at shape self.old.numbers.axes a b) }
+        ensures after { self.new.numbers ≡ (if is_ok result then one_drawn self.old.numbers else self.old.numbers) }
     {
-        if self.numbers.counts.drawn >= MOST_DRAWN {
-            return None;
-        }
-        self.numbers.counts.drawn += 1;
-        Some(point_at(self.numbers.axes, shape, a, b))
+        self.count_drawn()?;
+        Ok(point_at(self.numbers.axes, shape, a, b))
+    }
+
+    // Counts one glyph or point more, if there is one left.
+    fn count_drawn(&mut self) -> Result<(), Refusal>
+        ensures answer { result ≡ allowed (nat_lt self.old.numbers.counts.drawn most_drawn) Limit tt }
+        ensures after { self.new.numbers ≡ (if is_ok result then one_drawn self.old.numbers else self.old.numbers) }
+    {
+        self.numbers.counts.drawn = one_more(self.numbers.counts.drawn, MOST_DRAWN)?;
+        Ok(())
     }
 }

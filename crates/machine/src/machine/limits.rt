@@ -1,12 +1,26 @@
 // Whether a step keeps the machine's limits and ranges. A stack lies in a slice with the topmost thing last.
+ghost use Rattle.machine.specs.Refusals.{allowed};
 ghost use Rattle.machine.specs.State.{inside_range, state_of, within_limits};
 ghost use Rattle.machine.specs.declared.types.Open.{Open as Thing};
-ghost use Rattle.std.specs.Prelude.{◌≡◌, ◌+◌, List, reverse, nat_le};
+ghost use Rattle.machine.specs.declared.refusals.Refusal.TheVariants.{Limit};
+ghost use Rattle.std.specs.Prelude.{◌≡◌, ◌+◌, List, reverse, nat_le, nat_lt};
 
 use super::{MOST_DRAWN, MOST_MARKS, MOST_PAGES, Machine};
 use crate::places::{offset_stays, start_stays};
+use crate::refusals::Refusal;
 use crate::stack::saves_open;
 use crate::types::{Open, Step};
+
+// One more than so many, if that keeps the limit.
+pub(super) fn one_more(count: u32, most: u32) -> Result<u32, Refusal>
+    ensures { result ≡ allowed (nat_lt count most) Limit (count + 1) }
+{
+    if count < most {
+        Ok(count + 1)
+    } else {
+        Err(Refusal::Limit)
+    }
+}
 
 impl Machine {
     // Whether a step keeps the limits, with so many saves open at most.
@@ -15,17 +29,10 @@ impl Machine {
     {
         let counts = self.numbers.counts;
         match step {
-            Step::Page => counts.pages < MOST_PAGES,
-            Step::Mark { owned } => {
-                if owned {
-                    counts.marks < MOST_MARKS
-                } else {
-                    true
-                }
-            }
+            Step::Page => one_more(counts.pages, MOST_PAGES).is_ok(),
+            Step::Mark { owned } => !owned || one_more(counts.marks, MOST_MARKS).is_ok(),
             Step::Save => saves_open(stack) < most,
-            Step::Pen { a: _, b: _ } => counts.drawn < MOST_DRAWN,
-            Step::Line { a: _, b: _ } => counts.drawn < MOST_DRAWN,
+            Step::Pen { .. } | Step::Line { .. } => one_more(counts.drawn, MOST_DRAWN).is_ok(),
             Step::Show { codes } => self.has_room(codes.count()),
             _ => true,
         }
