@@ -1,4 +1,4 @@
 -- The lemmas of the page machine, file by file.
-pub mod Provided
+pub mod Allowed
 pub mod Opens
 pub mod Matrices

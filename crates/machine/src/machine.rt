@@ -1,5 +1,5 @@
 // The machine: its numbers, and the methods that change them.
-ghost use Rattle.std.specs.Prelude.{◌≡◌, ◌*◌, ◌≤◌, true, is_ok, if◌then◌else◌, nat_lt};
+ghost use Rattle.std.specs.Prelude.{◌≡◌, ◌*◌, ◌≤◌, true, is_ok, OnOk, if◌then◌else◌, nat_lt};
 ghost use Rattle.machine.specs.Axes.{axes_inside, shifted};
 ghost use Rattle.machine.specs.Laws.{EvenlySpaced, Multiplied, shift_by, turn_by};
 ghost use Rattle.machine.specs.Refusals.{allowed};
@@ -7,7 +7,6 @@ ghost use Rattle.machine.specs.State.{Does, glyph_at, glyph_set, line_inside, mo
 ghost use Rattle.machine.specs.declared.refusals.Refusal.TheVariants.{Limit, Outside};
 
 use crate::drawing::{glyph_at, point_at};
-use crate::places::{moved_start, shifted_offset};
 use crate::refusals::Refusal;
 use crate::types::{Axes, Counts, Drawn, Letter, Numbers, Step, TextLine};
 use limits::one_more;
@@ -99,23 +98,13 @@ impl Machine {
     }
 
     // Moves the origin, if the offset is then within its range.
-    pub fn shift(&mut self, a: i32, b: i32) -> bool
-        ensures answer { result ≡ axes_inside (shifted self.old.numbers.axes a b) }
-        ensures after { Does (Step.Origin a b) result self.old.numbers self.new.numbers }
-        ensures matrix { result ≡ true → Multiplied (shift_by a b) self.old.numbers.axes self.new.numbers.axes }
+    pub fn shift(&mut self, a: i32, b: i32) -> Result<(), Refusal>
+        ensures answer { result ≡ allowed (axes_inside (shifted self.old.numbers.axes a b)) Outside tt }
+        ensures after { Does (Step.Origin a b) (is_ok result) self.old.numbers self.new.numbers }
+        ensures matrix { OnOk result (Multiplied (shift_by a b) self.old.numbers.axes self.new.numbers.axes) }
     {
-        let axes = self.numbers.axes;
-        match shifted_offset(axes, a, b) {
-            Some((x, y)) => {
-                self.numbers.axes = Axes {
-                    turn: axes.turn,
-                    x,
-                    y,
-                };
-                true
-            }
-            None => false,
-        }
+        self.numbers.axes = self.numbers.axes.shifted(a, b)?;
+        Ok(())
     }
 
     // Turns the axes by quarters of a whole turn.
@@ -141,23 +130,12 @@ impl Machine {
     }
 
     // Moves the start of the line of text, if it is then within its range.
-    pub fn place(&mut self, a: i32, b: i32) -> bool
-        ensures answer { result ≡ line_inside (placed self.old.numbers.line a b) }
-        ensures after { Does (Step.Place a b) result self.old.numbers self.new.numbers }
+    pub fn place(&mut self, a: i32, b: i32) -> Result<(), Refusal>
+        ensures answer { result ≡ allowed (line_inside (placed self.old.numbers.line a b)) Outside tt }
+        ensures after { Does (Step.Place a b) (is_ok result) self.old.numbers self.new.numbers }
     {
-        let line = self.numbers.line;
-        match moved_start(line, a, b) {
-            Some((x, y)) => {
-                self.numbers.line = TextLine {
-                    x,
-                    y,
-                    advance: 0,
-                    size: line.size,
-                };
-                true
-            }
-            None => false,
-        }
+        self.numbers.line = self.numbers.line.placed(a, b)?;
+        Ok(())
     }
 
     // Sets one glyph and advances, if there is one left.

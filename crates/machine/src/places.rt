@@ -1,144 +1,111 @@
-// Quarter turns of a place.
-ghost use Rattle.std.specs.Prelude.{◌≡◌, ◌^◌, ◌&&◌, pos, negsuc, ◌+ℤ◌, ◌*ℤ◌, ◌≤ℤ◌};
+// Places, and what axes and a line of text make of them.
+ghost use Rattle.std.specs.Prelude.{◌≡◌, ◌^◌, ◌≤◌, ◌&&◌, pos, ◌+ℤ◌, ◌*ℤ◌, unsigned_abs};
 ghost use Rattle.machine.specs.Axes.{axes_inside, rotated_x, rotated_y, shifted, within};
+ghost use Rattle.machine.specs.Refusals.{allowed};
 ghost use Rattle.machine.specs.State.{line_inside, placed};
-ghost use Rattle.page.specs.Numbers.{provided};
+ghost use Rattle.machine.specs.declared.refusals.Refusal.TheVariants.{Outside};
 
+use crate::refusals::Refusal;
 use crate::types::{Axes, TextLine};
 
-// The x of a place after some quarter turns.
-pub(crate) fn rotate_x(turn: u8, x: i64, y: i64) -> i64
-    requires { (negsuc (2 ^ 40) ≤ℤ x) × ((x ≤ℤ pos (2 ^ 40)) × ((negsuc (2 ^ 40) ≤ℤ y) × (y ≤ℤ pos (2 ^ 40)))) }
-    ensures value { result ≡ rotated_x turn x y }
-    ensures low { negsuc (2 ^ 41) ≤ℤ result }
-    ensures high { result ≤ℤ pos (2 ^ 41) }
-{
-    match turn % 4 {
-        0 => x,
-        1 => -y,
-        2 => -x,
-        _ => y,
+// A place. It is so near to the origin that it can be turned and moved.
+#[derive(Clone, Copy)]
+pub(crate) struct Place {
+    x: i64,
+    y: i64,
+    ghost x_near: { unsigned_abs x ≤ 2 ^ 40 },
+    ghost y_near: { unsigned_abs y ≤ 2 ^ 40 },
+}
+
+impl Place {
+    // The place (x, y), in points.
+    pub(crate) fn in_points(x: i32, y: i32) -> Place
+        ensures x { result.x ≡ x }
+        ensures y { result.y ≡ y }
+    {
+        Place {
+            x: i64::from(x),
+            y: i64::from(y),
+        }
     }
-}
 
-// The y of a place after some quarter turns.
-pub(crate) fn rotate_y(turn: u8, x: i64, y: i64) -> i64
-    requires { (negsuc (2 ^ 40) ≤ℤ x) × ((x ≤ℤ pos (2 ^ 40)) × ((negsuc (2 ^ 40) ≤ℤ y) × (y ≤ℤ pos (2 ^ 40)))) }
-    ensures value { result ≡ rotated_y turn x y }
-    ensures low { negsuc (2 ^ 41) ≤ℤ result }
-    ensures high { result ≤ℤ pos (2 ^ 41) }
-{
-    match turn % 4 {
-        0 => y,
-        1 => x,
-        2 => -y,
-        _ => -x,
+    // The place (x, y) of points and so much further along, in tenths of a point.
+    pub(crate) fn in_tenths(x: i32, y: i32, further: u32) -> Place
+        ensures x { result.x ≡ pos 10 *ℤ x +ℤ pos further }
+        ensures y { result.y ≡ pos 10 *ℤ y }
+    {
+        Place {
+            x: 10 * i64::from(x) + i64::from(further),
+            y: 10 * i64::from(y),
+        }
     }
-}
 
-// The x of a place in points after some quarter turns.
-pub(crate) fn turned_x(turn: u8, a: i32, b: i32) -> i64
-    ensures value { result ≡ rotated_x turn a b }
-    ensures low { negsuc (2 ^ 41) ≤ℤ result }
-    ensures high { result ≤ℤ pos (2 ^ 41) }
-{
-    rotate_x(turn, i64::from(a), i64::from(b))
-}
+    // The place after some quarter turns.
+    pub(crate) fn turned(self, turn: u8) -> Place
+        ensures x { result.x ≡ rotated_x turn self.x self.y }
+        ensures y { result.y ≡ rotated_y turn self.x self.y }
+    {
+        let Place { x, y } = self;
+        match turn % 4 {
+            0 => Place { x, y },
+            1 => Place { x: -y, y: x },
+            2 => Place { x: -x, y: -y },
+            _ => Place { x: y, y: -x },
+        }
+    }
 
-// The y of a place in points after some quarter turns.
-pub(crate) fn turned_y(turn: u8, a: i32, b: i32) -> i64
-    ensures value { result ≡ rotated_y turn a b }
-    ensures low { negsuc (2 ^ 41) ≤ℤ result }
-    ensures high { result ≤ℤ pos (2 ^ 41) }
-{
-    rotate_y(turn, i64::from(a), i64::from(b))
-}
+    // Where the place stands on a page, in tenths of a point, if it is told in tenths along these axes.
+    pub(crate) fn on_page(self, axes: Axes) -> (i64, i64)
+        ensures x { result.0 ≡ pos 10 *ℤ axes.x +ℤ rotated_x axes.turn self.x self.y }
+        ensures y { result.1 ≡ pos 10 *ℤ axes.y +ℤ rotated_y axes.turn self.x self.y }
+    {
+        let Place { x, y } = self.turned(axes.turn);
+        (10 * i64::from(axes.x) + x, 10 * i64::from(axes.y) + y)
+    }
 
-// Ten times a number.
-pub(crate) fn tenfold(z: i64) -> i64
-    requires { (negsuc (2 ^ 41) ≤ℤ z) × (z ≤ℤ pos (2 ^ 41)) }
-    ensures value { result ≡ pos 10 *ℤ z }
-    ensures low { negsuc (2 ^ 45) ≤ℤ result }
-    ensures high { result ≤ℤ pos (2 ^ 45) }
-{
-    10 * z
-}
-
-// A coordinate and so much more.
-fn sum(z: i32, by: i64) -> i64
-    requires { (negsuc (2 ^ 41) ≤ℤ by) × (by ≤ℤ pos (2 ^ 41)) }
-    ensures { result ≡ z +ℤ by }
-{
-    i64::from(z) + by
+    // The numbers x and y with the place added, if both are then within ±14,400.
+    fn added_to(self, x: i32, y: i32) -> Result<(i32, i32), Refusal>
+        ensures { result ≡ allowed (within (x +ℤ self.x) && within (y +ℤ self.y)) Outside (x +ℤ self.x, y +ℤ self.y) }
+    {
+        let x = narrow(i64::from(x) + self.x)?;
+        let y = narrow(i64::from(y) + self.y)?;
+        Ok((x, y))
+    }
 }
 
 // A number, if it is within ±14,400.
-fn narrow(z: i64) -> Option<i32>
-    ensures { result ≡ provided (within z) z }
+fn narrow(z: i64) -> Result<i32, Refusal>
+    ensures { result ≡ allowed (within z) Outside z }
 {
     if -14_400 <= z && z <= 14_400 {
-        Some(z as i32)
+        Ok(z as i32)
     } else {
-        None
+        Err(Refusal::Outside)
     }
 }
 
-// The x of axes that are shifted.
-fn shift_x(axes: Axes, a: i32, b: i32) -> i64
-    ensures { result ≡ (shifted axes a b).x }
-{
-    sum(axes.x, turned_x(axes.turn, a, b))
-}
-
-// The y of axes that are shifted.
-fn shift_y(axes: Axes, a: i32, b: i32) -> i64
-    ensures { result ≡ (shifted axes a b).y }
-{
-    sum(axes.y, turned_y(axes.turn, a, b))
-}
-
-// Both numbers, if they are within ±14,400.
-fn narrow_both(x: i64, y: i64) -> Option<(i32, i32)>
-    ensures { result ≡ provided (within x && within y) (x, y) }
-{
-    match (narrow(x), narrow(y)) {
-        (Some(x), Some(y)) => Some((x, y)),
-        _ => None,
+impl Axes {
+    // The axes with the offset moved by (a, b), as they are turned, if it is then within its range.
+    pub(crate) fn shifted(self, a: i32, b: i32) -> Result<Axes, Refusal>
+        ensures { result ≡ allowed (axes_inside (shifted self a b)) Outside (shifted self a b) }
+    {
+        let place = Place::in_points(a, b).turned(self.turn);
+        let (x, y) = place.added_to(self.x, self.y)?;
+        Ok(Axes { x, y, ..self })
     }
 }
 
-// The offset of axes that are shifted, if it is within its range.
-pub(crate) fn shifted_offset(axes: Axes, a: i32, b: i32) -> Option<(i32, i32)>
-    ensures { result ≡ provided (axes_inside (shifted axes a b)) ((shifted axes a b).x, (shifted axes a b).y) }
-{
-    narrow_both(shift_x(axes, a, b), shift_y(axes, a, b))
-}
-
-// The start of a line of text moved by (a, b), if it is then within its range.
-pub(crate) fn moved_start(line: TextLine, a: i32, b: i32) -> Option<(i32, i32)>
-    ensures { result ≡ provided (line_inside (placed line a b)) ((placed line a b).x, (placed line a b).y) }
-{
-    narrow_both(sum(line.x, i64::from(a)), sum(line.y, i64::from(b)))
-}
-
-// Whether axes that are shifted have their offset within its range.
-pub(crate) fn offset_stays(axes: Axes, a: i32, b: i32) -> bool
-    ensures { result ≡ axes_inside (shifted axes a b) }
-{
-    shifted_offset(axes, a, b).is_some()
-}
-
-// Whether a line of text that is placed has its start within its range.
-pub(crate) fn start_stays(line: TextLine, a: i32, b: i32) -> bool
-    ensures { result ≡ line_inside (placed line a b) }
-{
-    moved_start(line, a, b).is_some()
-}
-
-// A coordinate in tenths: ten times the offset and so much more.
-pub(crate) fn tenths(offset: i32, more: i64) -> i64
-    requires { (negsuc (2 ^ 45) ≤ℤ more) × (more ≤ℤ pos (2 ^ 45)) }
-    ensures value { result ≡ pos 10 *ℤ offset +ℤ more }
-{
-    10 * i64::from(offset) + more
+impl TextLine {
+    // The line with its start moved by (a, b), and no advance, if the start is then within its range.
+    pub(crate) fn placed(self, a: i32, b: i32) -> Result<TextLine, Refusal>
+        ensures { result ≡ allowed (line_inside (placed self a b)) Outside (placed self a b) }
+    {
+        let (x, y) = Place::in_points(a, b).added_to(self.x, self.y)?;
+        Ok(TextLine {
+            x,
+            y,
+            advance: 0,
+            ..self
+        })
+    }
 }

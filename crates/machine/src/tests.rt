@@ -1,5 +1,5 @@
 // Where glyphs stand after an origin, a turn and a place, by hand.
-use crate::Machine;
+use crate::{Machine, Refusal};
 use std::process::Abort;
 use std::test::Fail;
 
@@ -10,27 +10,23 @@ fn glyph_stands(
     code: u8,
     place: (i64, i64),
 ) -> Result<(), Fail> {
-    match machine.glyph(code) {
-        Some(drawn) => {
-            assert!(rt; (drawn.x, drawn.y) == place);
-            assert!(rt; (drawn.turn, drawn.size, drawn.code) == (1, 10, code));
-            assert!(rt; drawn.letter.byte() == b'G');
-            Ok(())
-        }
-        None => Err(Fail::new("a glyph is refused")),
-    }
+    let drawn = machine.glyph(code)?;
+    assert!(rt; (drawn.x, drawn.y) == place);
+    assert!(rt; (drawn.turn, drawn.size, drawn.code) == (1, 10, code));
+    assert!(rt; drawn.letter.byte() == b'G');
+    Ok(())
 }
 
 #[test]
 fn turned_glyphs_go_up(rt: HostRuntime) -> Result<(), Fail> {
     let mut machine = Machine::new();
-    assert!(rt; machine.start_page());
-    assert!(rt; machine.shift(100, 0));
+    machine.start_page()?;
+    machine.shift(100, 0)?;
     machine.turn_by(1);
     machine.start_text(10);
-    assert!(rt; machine.place(10, 0));
+    machine.place(10, 0)?;
     glyph_stands(&rt, &mut machine, b'A', (1000, 100))?;
     glyph_stands(&rt, &mut machine, b'B', (1000, 160))?;
-    assert!(rt; !machine.place(14_391, 0));
+    assert!(rt; machine.place(14_391, 0) == Err(Refusal::Outside));
     Ok(())
 }

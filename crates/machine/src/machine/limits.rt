@@ -6,7 +6,6 @@ ghost use Rattle.machine.specs.declared.refusals.Refusal.TheVariants.{Limit};
 ghost use Rattle.std.specs.Prelude.{◌≡◌, ◌+◌, List, reverse, nat_le, nat_lt};
 
 use super::{MOST_DRAWN, MOST_MARKS, MOST_PAGES, Machine};
-use crate::places::{offset_stays, start_stays};
 use crate::refusals::Refusal;
 use crate::stack::saves_open;
 use crate::types::{Open, Step};
@@ -50,8 +49,8 @@ impl Machine {
         ensures { (stack : List Thing) → result ≡ inside_range (state_of stack self.now.numbers) step }
     {
         match step {
-            Step::Origin { a, b } => offset_stays(self.numbers.axes, a, b),
-            Step::Place { a, b } => start_stays(self.numbers.line, a, b),
+            Step::Origin { a, b } => self.numbers.axes.shifted(a, b).is_ok(),
+            Step::Place { a, b } => self.numbers.line.placed(a, b).is_ok(),
             _ => true,
         }
     }
