@@ -1,9 +1,9 @@
 -- What is open, and which step is taken where.
-use Rattle.std.specs.Prelude.{ℕ, ◌+◌, Bool, true, false, not, ◌&&◌, ◌||◌, List, [], ◌∷◌}
+use Rattle.std.specs.Borrow.{Bor}
+use Rattle.std.specs.Fn.{FnReturnsAt, Shared}
+use Rattle.std.specs.Prelude.{◌≡◌, ℕ, ◌+◌, Bool, true, false, not, ◌&&◌, ◌||◌, List, [], ◌∷◌}
 use Rattle.machine.specs.declared.types.Open.{Open}
 use Rattle.machine.specs.declared.types.Open.TheVariants.{Page, Save, Mark, Text, Path}
-use Rattle.machine.specs.declared.stack.Thing.{Thing}
-use Rattle.machine.specs.declared.stack.Thing.TheVariants as thing
 use Rattle.machine.specs.declared.types.Step.{Step}
 use Rattle.machine.specs.declared.types.Step.TheVariants as step
 
@@ -39,13 +39,6 @@ is_path (Mark owned) = false
 is_path Text = false
 is_path Path = true
 
--- Whether an open thing is of this kind.
-abbrev pub is_a : Thing → Open → Bool
-is_a thing.Page = is_page
-is_a thing.Mark = is_mark
-is_a thing.Text = is_text
-is_a thing.Path = is_path
-
 -- Whether a thing is a save, counted: 1 if it is, else 0.
 abbrev pub save_count : Open → ℕ
 save_count Page = 0
@@ -53,6 +46,10 @@ save_count (Save axes) = 1
 save_count (Mark owned) = 0
 save_count Text = 0
 save_count Path = 0
+
+-- What a function answers of each thing is whether the thing passes a test.
+abbrev pub Tells : {F : Type 0} → Shared F (Bor Open × Unit {0}) Bool → F → (Open → Bool) → Type 0
+Tells calls function test = (thing : Open) (answer : Bool) → FnReturnsAt calls function thing answer → answer ≡ test thing
 
 -- Whether one of the things that are open passes a test.
 unfoldable pub some_open : (Open → Bool) → List Open → Bool

@@ -8,17 +8,12 @@ use crate::places::Place;
 use crate::types::{Axes, Drawn, Letter, Numbers};
 use page::PaintOperator;
 
-impl Letter {
-    // The byte that stands for the letter.
-    pub fn byte(self) -> u8
-        ensures { result ≡ byte_of self }
-    {
-        match self {
-            Letter::Glyph => b'G',
-            Letter::Move => b'M',
-            Letter::Line => b'L',
-            Letter::Paint => b'Z',
-        }
+// The byte that stands for a letter.
+impl From<Letter> for u8 {
+    ghost from_gives = { λ letter byte. byte ≡ byte_of letter };
+
+    fn from(letter: Letter) -> u8 {
+        letter as u8
     }
 }
 

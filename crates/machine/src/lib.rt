@@ -5,7 +5,7 @@ mod drawing;
 mod machine;
 mod places;
 mod refusals;
-mod stack;
+mod stacks;
 mod steps;
 #[cfg(test)]
 mod tests;
@@ -14,6 +14,6 @@ mod types;
 pub use drawing::{glyph_at, paint, point_at};
 pub use machine::Machine;
 pub use refusals::Refusal;
-pub use stack::is_taken;
+pub use stacks::Stack;
 pub use steps::step_of;
 pub use types::{Axes, Counts, Drawn, Letter, Numbers, Open, Step, TextLine};

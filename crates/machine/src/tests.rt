@@ -13,7 +13,7 @@ fn glyph_stands(
     let drawn = machine.glyph(code)?;
     assert!(rt; (drawn.x, drawn.y) == place);
     assert!(rt; (drawn.turn, drawn.size, drawn.code) == (1, 10, code));
-    assert!(rt; drawn.letter.byte() == b'G');
+    assert!(rt; u8::from(drawn.letter) == b'G');
     Ok(())
 }
 

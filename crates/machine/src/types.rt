@@ -2,7 +2,7 @@
 use page::{Codes, PaintOperator};
 
 // Where the axes stand: quarters of a whole turn, and the offset in points.
-#[derive(Clone, Copy)]
+#[derive(Clone, Copy, PartialEq, Eq, Debug)]
 pub struct Axes {
     pub turn: u8,
     pub x: i32,
@@ -10,7 +10,7 @@ pub struct Axes {
 }
 
 // A thing that is open on a page.
-#[derive(Clone, Copy)]
+#[derive(Clone, Copy, PartialEq, Eq, Debug)]
 pub enum Open {
     Page,
     // A save, with the axes that it found.
@@ -39,7 +39,7 @@ pub enum Step {
 }
 
 // The line of text: its start in points, how far glyphs have come in tenths of a point, and the size of text.
-#[derive(Clone, Copy)]
+#[derive(Clone, Copy, PartialEq, Eq, Debug)]
 pub struct TextLine {
     pub(crate) x: i32,
     pub(crate) y: i32,
@@ -48,7 +48,7 @@ pub struct TextLine {
 }
 
 // How many glyphs and points, marks that belong to an element, and pages there were.
-#[derive(Clone, Copy)]
+#[derive(Clone, Copy, PartialEq, Eq, Debug)]
 pub struct Counts {
     pub(crate) drawn: u32,
     pub(crate) marks: u32,
@@ -56,24 +56,25 @@ pub struct Counts {
 }
 
 // The numbers of the machine.
-#[derive(Clone, Copy)]
+#[derive(Clone, Copy, PartialEq, Eq, Debug)]
 pub struct Numbers {
     pub(crate) axes: Axes,
     pub(crate) line: TextLine,
     pub(crate) counts: Counts,
 }
 
-// What a drawn thing is: a glyph, a point that a path goes on from, the end of a line, or the end of a path.
-#[derive(Clone, Copy)]
+// What a drawn thing is: a glyph, a point that a path goes on from, the end of a line, or the end of a path, with the
+// byte that stands for it.
+#[derive(Clone, Copy, PartialEq, Eq, Debug)]
 pub enum Letter {
-    Glyph,
-    Move,
-    Line,
-    Paint,
+    Glyph = b'G' as isize,
+    Move = b'M' as isize,
+    Line = b'L' as isize,
+    Paint = b'Z' as isize,
 }
 
 // A drawn thing. Its place is in tenths of a point.
-#[derive(Clone, Copy)]
+#[derive(Clone, Copy, PartialEq, Eq, Debug)]
 pub struct Drawn {
     pub letter: Letter,
     pub x: i64,

@@ -1,14 +1,14 @@
-// Whether a step keeps the machine's limits and ranges. A stack lies in a slice with the topmost thing last.
+// Whether a step keeps the machine's limits and ranges.
 ghost use Rattle.machine.specs.Refusals.{allowed};
 ghost use Rattle.machine.specs.State.{inside_range, state_of, within_limits};
 ghost use Rattle.machine.specs.declared.types.Open.{Open as Thing};
 ghost use Rattle.machine.specs.declared.refusals.Refusal.TheVariants.{Limit};
-ghost use Rattle.std.specs.Prelude.{◌≡◌, ◌+◌, List, reverse, nat_le, nat_lt};
+ghost use Rattle.std.specs.Prelude.{◌≡◌, ◌+◌, List, nat_le, nat_lt};
 
 use super::{MOST_DRAWN, MOST_MARKS, MOST_PAGES, Machine};
 use crate::refusals::Refusal;
-use crate::stack::saves_open;
-use crate::types::{Open, Step};
+use crate::stacks::Stack;
+use crate::types::Step;
 
 // One more than so many, if that keeps the limit.
 pub(super) fn one_more(count: u32, most: u32) -> Result<u32, Refusal>
@@ -23,14 +23,14 @@ pub(super) fn one_more(count: u32, most: u32) -> Result<u32, Refusal>
 
 impl Machine {
     // Whether a step keeps the limits, with so many saves open at most.
-    pub fn within_limits(&self, most: usize, stack: &[Open], step: Step) -> bool
-        ensures { result ≡ within_limits most (state_of (reverse stack.now) self.now.numbers) step }
+    pub fn within_limits(&self, most: usize, stack: &Stack, step: Step) -> bool
+        ensures { result ≡ within_limits most (state_of stack.now self.now.numbers) step }
     {
         let counts = self.numbers.counts;
         match step {
             Step::Page => one_more(counts.pages, MOST_PAGES).is_ok(),
             Step::Mark { owned } => !owned || one_more(counts.marks, MOST_MARKS).is_ok(),
-            Step::Save => saves_open(stack) < most,
+            Step::Save => stack.saves() < most,
             Step::Pen { .. } | Step::Line { .. } => one_more(counts.drawn, MOST_DRAWN).is_ok(),
             Step::Show { codes } => self.has_room(codes.count()),
             _ => true,

@@ -1,5 +1,5 @@
 -- A glyph stands where the matrix of the axes puts it.
-use Rattle.std.proofs.Common.{◌≡◌, ◌∙◌, w64, SFits, to_z, of_z, rules}
+use Rattle.std.proofs.Common.{rules}
 use Rattle.std.proofs.lemmas.Int.{to_z-of_z}
 use Rattle.machine.proofs.Matrices.{glyph_stands}
 use Rattle.machine.proofs.drawing.glyph_at.Goals as goal

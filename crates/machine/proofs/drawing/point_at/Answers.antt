@@ -1,7 +1,6 @@
 -- A point stands where the matrix of the axes puts it.
-use Rattle.std.proofs.Common.{◌≡◌, ◌∙◌, w64, SFits, to_z, of_z, rules}
+use Rattle.std.proofs.Common.{rules}
 use Rattle.std.proofs.lemmas.Int.{to_z-of_z}
-use Rattle.machine.specs.State.{point_at}
 use Rattle.machine.proofs.Matrices.{point_stands, tenfold_x, tenfold_y}
 use Rattle.machine.proofs.drawing.point_at.Goals as goal
 

@@ -1,5 +1,5 @@
 -- A start stays within its range exactly where the placed line is given.
-use Rattle.std.proofs.Common.{◌≡◌, rules}
+use Rattle.std.proofs.Common.{rules}
 use Rattle.machine.proofs.Allowed.{told}
 use Rattle.machine.proofs.machine.Machine.inside_range.Goals as goal
 

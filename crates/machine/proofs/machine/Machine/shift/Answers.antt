@@ -1,5 +1,5 @@
 -- `shift` multiplies by the shift's matrix.
-use Rattle.std.proofs.Common.{◌≡◌, ◌∙◌, subst, rules}
+use Rattle.std.proofs.Common.{◌≡◌, subst, rules}
 use Rattle.std.proofs.lemmas.Int.{to_z-of_z}
 use Rattle.machine.specs.Axes.{shifted}
 use Rattle.machine.specs.Laws.{Multiplied, shift_by}
