@@ -36,24 +36,7 @@ impl Machine {
         ensures { result.numbers ≡ no_numbers }
     {
         Machine {
-            numbers: Numbers {
-                axes: Axes {
-                    turn: 0,
-                    x: 0,
-                    y: 0,
-                },
-                line: TextLine {
-                    x: 0,
-                    y: 0,
-                    advance: 0,
-                    size: 0,
-                },
-                counts: Counts {
-                    drawn: 0,
-                    marks: 0,
-                    pages: 0,
-                },
-            },
+            numbers: Numbers::default(),
         }
     }
 
@@ -78,11 +61,7 @@ impl Machine {
         ensures after { Does Step.Page (is_ok result) self.old.numbers self.new.numbers }
     {
         self.numbers.counts.pages = one_more(self.numbers.counts.pages, MOST_PAGES)?;
-        self.numbers.axes = Axes {
-            turn: 0,
-            x: 0,
-            y: 0,
-        };
+        self.numbers.axes = Axes::default();
         Ok(())
     }
 
@@ -121,10 +100,8 @@ impl Machine {
         ensures spaced { EvenlySpaced size self.new.numbers }
     {
         let started = TextLine {
-            x: 0,
-            y: 0,
-            advance: 0,
             size,
+            ..TextLine::default()
         };
         self.numbers.line = started;
     }

@@ -2,7 +2,7 @@
 use page::{Codes, PaintOperator};
 
 // Where the axes stand: quarters of a whole turn, and the offset in points.
-#[derive(Clone, Copy, PartialEq, Eq, Debug)]
+#[derive(Clone, Copy, PartialEq, Eq, Debug, Default)]
 pub struct Axes {
     pub turn: u8,
     pub x: i32,
@@ -39,7 +39,7 @@ pub enum Step {
 }
 
 // The line of text: its start in points, how far glyphs have come in tenths of a point, and the size of text.
-#[derive(Clone, Copy, PartialEq, Eq, Debug)]
+#[derive(Clone, Copy, PartialEq, Eq, Debug, Default)]
 pub struct TextLine {
     pub(crate) x: i32,
     pub(crate) y: i32,
@@ -48,7 +48,7 @@ pub struct TextLine {
 }
 
 // How many glyphs and points, marks that belong to an element, and pages there were.
-#[derive(Clone, Copy, PartialEq, Eq, Debug)]
+#[derive(Clone, Copy, PartialEq, Eq, Debug, Default)]
 pub struct Counts {
     pub(crate) drawn: u32,
     pub(crate) marks: u32,
@@ -56,7 +56,7 @@ pub struct Counts {
 }
 
 // The numbers of the machine.
-#[derive(Clone, Copy, PartialEq, Eq, Debug)]
+#[derive(Clone, Copy, PartialEq, Eq, Debug, Default)]
 pub struct Numbers {
     pub(crate) axes: Axes,
     pub(crate) line: TextLine,

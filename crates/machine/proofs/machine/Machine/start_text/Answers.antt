@@ -1,8 +1,8 @@
 -- Text starts with no advance, and each glyph adds as much.
-use Rattle.std.proofs.Common.{◌∙◌, zero-add, rules}
-use Rattle.machine.specs.State.{text_started}
+use Rattle.std.proofs.Common.{rules, arith}
+use Rattle.std.proofs.lemmas.Grind.{common_steps}
 use Rattle.machine.proofs.Matrices.{advances}
 use Rattle.machine.proofs.machine.Machine.start_text.Goals as goal
 
-pub returns : goal.returns
-returns c = record { after = search rules; spaced = λ xs. advances (text_started c.args.self.now.numbers c.args.size) xs ∙ zero-add _ }
+pub returns-clause-spaced : goal.returns-clause-spaced
+returns-clause-spaced c = λ xs. grind (arith, common_steps, advances)
