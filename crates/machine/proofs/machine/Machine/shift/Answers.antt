@@ -9,11 +9,7 @@ use Rattle.machine.proofs.machine.Machine.shift.Goals as goal
 pub returns-in_err-self-clause-answer : goal.returns-in_err-self-clause-answer
 returns-in_err-self-clause-answer c = let told = refused _ _ _ _ _ c.shifted.ensures c.in_err-self.was in search rules
 
-pub returns-clause-answer : goal.returns-clause-answer
-returns-clause-answer c = let told = given _ _ _ _ _ c.shifted.ensures c.in_ok-self.was in search rules
-
-pub returns-clause-after : goal.returns-clause-after
-returns-clause-after c = let told = given _ _ _ _ _ c.shifted.ensures c.in_ok-self.was in search rules
-
-pub returns-clause-matrix : goal.returns-clause-matrix
-returns-clause-matrix c = let told = given _ _ _ _ _ c.shifted.ensures c.in_ok-self.was in grind (arith, common_steps, shift_multiplies, to_z-of_z)
+pub returns : goal.returns
+returns c =
+    let told = given _ _ _ _ _ c.shifted.ensures c.in_ok-self.was in
+    record { answer = search rules; after = search rules; matrix = grind (arith, common_steps, shift_multiplies, to_z-of_z) }
