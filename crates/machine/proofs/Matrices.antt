@@ -113,17 +113,11 @@ point_stands shape at a b = record {
 }
 
 -- turning ten times a place is ten times the turned place
-abbrev TenfoldX : ℤ → ℤ → ℕ → Type 0
-TenfoldX x y q = one_of q (pos 10 *ℤ x +ℤ pos 0) (neg_ℤ (pos 10 *ℤ y)) (neg_ℤ (pos 10 *ℤ x +ℤ pos 0)) (pos 10 *ℤ y) ≡ pos 10 *ℤ one_of q x (neg_ℤ y) (neg_ℤ x) y
-
-abbrev TenfoldY : ℤ → ℤ → ℕ → Type 0
-TenfoldY x y q = one_of q (pos 10 *ℤ y) (pos 10 *ℤ x +ℤ pos 0) (neg_ℤ (pos 10 *ℤ y)) (neg_ℤ (pos 10 *ℤ x +ℤ pos 0)) ≡ pos 10 *ℤ one_of q y x (neg_ℤ y) (neg_ℤ x)
-
 pub tenfold_x : (t : ℕ) (x y : ℤ) → rotated_x t (pos 10 *ℤ x +ℤ pos 0) (pos 10 *ℤ y) ≡ pos 10 *ℤ rotated_x t x y
-tenfold_x t x y = quarters (TenfoldX x y) (omega (arith, ints)) (omega (arith, ints)) (omega (arith, ints)) (omega (arith, ints)) (t % 4) (omega arith)
+tenfold_x t x y = grind (arith, ints)
 
 pub tenfold_y : (t : ℕ) (x y : ℤ) → rotated_y t (pos 10 *ℤ x +ℤ pos 0) (pos 10 *ℤ y) ≡ pos 10 *ℤ rotated_y t x y
-tenfold_y t x y = quarters (TenfoldY x y) (omega (arith, ints)) (omega (arith, ints)) (omega (arith, ints)) (omega (arith, ints)) (t % 4) (omega arith)
+tenfold_y t x y = grind (arith, ints)
 
 -- a glyph stands where the start of the line and the advance times the matrix are
 pub glyph_stands : (n : Numbers) (code : ℕ) → GlyphStands n (glyph_at n code)
