@@ -133,6 +133,10 @@ did s (step.Text size) = opened Text (with_numbers s (text_started s.numbers siz
 did s (step.Place a b) = with_numbers s (with_line s.numbers (placed s.numbers.line a b))
 did s (step.Show codes) = with_numbers s (glyphs_set s.numbers (codes_in codes))
 
+-- Whether there is a glyph or a point left.
+abbrev pub can_draw : Numbers → Bool
+can_draw n = nat_lt n.counts.drawn most_drawn
+
 -- Whether a step keeps the limits, with so many saves open at most.
 abbrev pub within_limits : ℕ → State → Step → Bool
 within_limits saves s step.Page = nat_lt s.numbers.counts.pages most_pages

@@ -3,7 +3,7 @@ ghost use Rattle.std.specs.Prelude.{◌≡◌, ◌*◌, ◌≤◌, true, is_ok, 
 ghost use Rattle.machine.specs.Axes.{axes_inside, shifted};
 ghost use Rattle.machine.specs.Laws.{EvenlySpaced, Multiplied, shift_by, turn_by};
 ghost use Rattle.machine.specs.Refusals.{allowed};
-ghost use Rattle.machine.specs.State.{Does, glyph_at, glyph_set, line_inside, most_drawn, most_marks, most_pages, no_numbers, one_drawn, placed, point_at, with_axes};
+ghost use Rattle.machine.specs.State.{Does, can_draw, glyph_at, glyph_set, line_inside, most_marks, most_pages, no_numbers, one_drawn, placed, point_at, with_axes};
 ghost use Rattle.machine.specs.declared.refusals.Refusal.TheVariants.{Limit, Outside};
 
 use crate::drawing::{glyph_at, point_at};
@@ -23,7 +23,7 @@ const MOST_MARKS: u32 = 1024;
 const MOST_DRAWN: u32 = 2048;
 
 // The machine. Its counts keep their limit, and no glyph is wider than 6 × 255 tenths, so the advance does not overflow.
-#[derive(Clone, Copy)]
+#[derive(Clone, Copy, PartialEq, Eq, Debug)]
 pub struct Machine {
     numbers: Numbers,
     ghost counted: { numbers.counts.drawn ≤ 2048 },
@@ -99,11 +99,10 @@ impl Machine {
         ensures after { Does (Step.Text size) true self.old.numbers self.new.numbers }
         ensures spaced { EvenlySpaced size self.new.numbers }
     {
-        let started = TextLine {
+        self.numbers.line = TextLine {
             size,
             ..TextLine::default()
         };
-        self.numbers.line = started;
     }
 
     // Moves the start of the line of text, if it is then within its range.
@@ -117,7 +116,7 @@ impl Machine {
 
     // Sets one glyph and advances, if there is one left.
     pub fn glyph(&mut self, code: u8) -> Result<Drawn, Refusal>
-        ensures answer { result ≡ allowed (nat_lt self.old.numbers.counts.drawn most_drawn) Limit (glyph_at self.old.numbers code) }
+        ensures answer { result ≡ allowed (can_draw self.old.numbers) Limit (glyph_at self.old.numbers code) }
         ensures after { self.new.numbers ≡ (if is_ok result then glyph_set self.old.numbers else self.old.numbers) }
     {
         self.count_drawn()?;
@@ -128,7 +127,7 @@ impl Machine {
 
     // Sets the point that a path goes on from, if there is one left.
     pub fn pen_to(&mut self, a: i32, b: i32) -> Result<Drawn, Refusal>
-        ensures answer { result ≡ allowed (nat_lt self.old.numbers.counts.drawn most_drawn) Limit (point_at Letter.Move self.old.numbers.axes a b) }
+        ensures answer { result ≡ allowed (can_draw self.old.numbers) Limit (point_at Letter.Move self.old.numbers.axes a b) }
         ensures after { Does (Step.Pen a b) (is_ok result) self.old.numbers self.new.numbers }
     {
         self.point(Letter::Move, a, b)
@@ -136,7 +135,7 @@ impl Machine {
 
     // Sets the point that a line goes to, if there is one left.
     pub fn line_to(&mut self, a: i32, b: i32) -> Result<Drawn, Refusal>
-        ensures answer { result ≡ allowed (nat_lt self.old.numbers.counts.drawn most_drawn) Limit (point_at Letter.Line self.old.numbers.axes a b) }
+        ensures answer { result ≡ allowed (can_draw self.old.numbers) Limit (point_at Letter.Line self.old.numbers.axes a b) }
         ensures after { Does (Step.Line a b) (is_ok result) self.old.numbers self.new.numbers }
     {
         self.point(Letter::Line, a, b)
@@ -144,7 +143,7 @@ impl Machine {
 
     // Sets a point of a path, if there is one left.
     fn point(&mut self, shape: Letter, a: i32, b: i32) -> Result<Drawn, Refusal>
-        ensures answer { result ≡ allowed (nat_lt self.old.numbers.counts.drawn most_drawn) Limit (point_at shape self.old.numbers.axes a b) }
+        ensures answer { result ≡ allowed (can_draw self.old.numbers) Limit (point_at shape self.old.numbers.axes a b) }
         ensures after { self.new.numbers ≡ (if is_ok result then one_drawn self.old.numbers else self.old.numbers) }
     {
         self.count_drawn()?;
@@ -153,7 +152,7 @@ impl Machine {
 
     // Counts one glyph or point more, if there is one left.
     fn count_drawn(&mut self) -> Result<(), Refusal>
-        ensures answer { result ≡ allowed (nat_lt self.old.numbers.counts.drawn most_drawn) Limit tt }
+        ensures answer { result ≡ allowed (can_draw self.old.numbers) Limit tt }
         ensures after { self.new.numbers ≡ (if is_ok result then one_drawn self.old.numbers else self.old.numbers) }
     {
         self.numbers.counts.drawn = one_more(self.numbers.counts.drawn, MOST_DRAWN)?;

@@ -19,7 +19,7 @@ pub(crate) struct Place {
 
 impl Place {
     // The place (x, y), in points.
-    pub(crate) fn in_points(x: i32, y: i32) -> Place
+    fn in_points(x: i32, y: i32) -> Place
         ensures x { result.x ≡ x }
         ensures y { result.y ≡ y }
     {
@@ -41,7 +41,7 @@ impl Place {
     }
 
     // The place after some quarter turns.
-    pub(crate) fn turned(self, turn: u8) -> Place
+    fn turned(self, turn: u8) -> Place
         ensures x { result.x ≡ rotated_x turn self.x self.y }
         ensures y { result.y ≡ rotated_y turn self.x self.y }
     {

@@ -37,7 +37,7 @@ impl Open {
 }
 
 // What is open. The things lie in lent memory, the topmost last.
-#[derive(Drop)]
+#[derive(Debug, Drop)]
 pub struct Stack<'a> {
     things: &'a [Open],
 }

@@ -10,12 +10,9 @@ pub fn step_of(word: Word) -> Option<Step>
     ensures { result ≡ step_of word }
 {
     let step = match word {
-        Word::Page {
-            width: _,
-            height: _,
-        } => Step::Page,
+        Word::Page { .. } => Step::Page,
         Word::Close => Step::Close,
-        Word::Element { parent: _, role: _ } => return None,
+        Word::Element { .. } => return None,
         Word::Mark { element } => Step::Mark {
             owned: element != 0,
         },

@@ -23,7 +23,7 @@ pub(super) fn one_more(count: u32, most: u32) -> Result<u32, Refusal>
 
 impl Machine {
     // Whether a step keeps the limits, with so many saves open at most.
-    pub fn within_limits(&self, most: usize, stack: &Stack, step: Step) -> bool
+    pub fn within_limits(&self, most: usize, stack: &Stack<'_>, step: Step) -> bool
         ensures { result ≡ within_limits most (state_of stack.now self.now.numbers) step }
     {
         let counts = self.numbers.counts;
