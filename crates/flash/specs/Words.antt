@@ -1,5 +1,6 @@
 -- Words of 32 bits as four bytes each, the earliest byte in the top bits.
-use Rattle.std.specs.Prelude.{ℕ, ◌+◌, ◌*◌, ◌/◌, ◌%◌, List, [], ◌∷◌, ◌++◌, slice_index}
+use Rattle.std.specs.Prelude.{ℕ, ◌+◌, ◌*◌, ◌/◌, ◌%◌, List, [], ◌∷◌, slice_index}
+use Rattle.std.specs.List.{flat_map}
 
 -- The four bytes of a word.
 abbrev pub word_bytes : ℕ → List ℕ
@@ -11,5 +12,4 @@ word_of bs = slice_index bs 0 * 16777216 + slice_index bs 1 * 65536 + slice_inde
 
 -- The bytes of some words, in order.
 abbrev pub flat : List ℕ → List ℕ
-flat [] = []
-flat (w ∷ ws) = word_bytes w ++ flat ws
+flat words = flat_map word_bytes words

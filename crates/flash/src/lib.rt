@@ -12,6 +12,7 @@ pub struct Words;
 pub type Flash<'a> = Memory<'a, Words>;
 
 // Sets one byte of the words.
+#[tactic(auto, using(crate::proofs::Packs::flat_set_at))]
 fn set_byte(words: &mut [u32], at: usize, byte: u8)
     requires { at < 4 * length words.old }
     ensures { flat words.new ≡ slice_set (flat words.old) at byte }
@@ -31,7 +32,7 @@ impl Layout for Words {
         words.len().min(MOST / 4) * 4
     }
 
-    #[tactic(auto, using(crate::proofs::Packs::length_flat))]
+    #[tactic(auto, using(crate::proofs::Packs::length_flat, std::proofs::lemmas::List::Edits::paste_more))]
     fn write(words: &mut [u32], at: usize, part: &[u8]) {
         for (i, b) in part.iter().enumerate() {
             set_byte(words, at + i, *b);
