@@ -20,6 +20,7 @@ pub mod report;
 const UNIT: usize = 7;
 
 // Puts each word as four bytes, the top bits first, all or none.
+#[tactic(auto, using(sink::proofs::Grown::writes_refused, sink::proofs::Grown::took_none, flash::proofs::Packs::length_flat))]
 pub fn put_words<S: Sink>(sink: &mut S, words: &[u32]) -> Result<(), Refusal>
     ensures { Writes S.view S.held S.memory result (flat words.now) sink.old sink.new }
 {
@@ -33,6 +34,7 @@ pub fn put_words<S: Sink>(sink: &mut S, words: &[u32]) -> Result<(), Refusal>
 }
 
 // Puts how many words there are as a line of text, and then the words, all or none.
+#[tactic(auto, using(sink::proofs::Grown::writes_refused, crate::proofs::Flats::length_stored))]
 pub fn store<S: Sink>(sink: &mut S, words: &[u32]) -> Result<(), Refusal>
     ensures { Writes S.view S.held S.memory result (stored words.now) sink.old sink.new }
 {

@@ -1,15 +1,9 @@
 use Rattle.std.proofs.Common.{◌≡◌, ℕ, ◌-◌, ◌/◌, ◌<◌, ◌≤◌, List, length, take, ap, arith, length-take, take_all}
-use Rattle.sink.proofs.Grown.{puts_refused, puts_taken, stays_same, stays_if_taken, took, took_none, took_more, room_after, fits_not_refused}
+use Rattle.sink.proofs.Grown.{writes_taken, took, took_more, room_after, fits_not_refused}
 use Rattle.flash.specs.Words.{flat}
 use Rattle.flash.proofs.Packs.{length_flat}
 use Rattle.store.proofs.Flats.{flat_more}
 use Rattle.store.proofs.put_words.Goals as goal
-
-pub returns-then-words-room : goal.returns-then-words-room
-returns-then-words-room g c = record { puts = puts_refused (omega (arith, length_flat c.args.words.now, c.room.ensures)); stays = stays_same }
-
-pub loop-word-init : goal.loop-word-init
-loop-word-init g c = took_none _
 
 -- there is room for one word more
 room_for_one : (ws : List ℕ) (i room left : ℕ) → i < length ws → length ws ≤ room / 4 → left ≡ room - length (flat (take i ws)) → 4 ≤ left
@@ -34,5 +28,4 @@ loop-word-preserved g c =
 pub returns : goal.returns
 returns g c =
     let all = take_all _ c.args.words.now c.loop-word-test.false in
-    let end = rw all at c.loop-word.invariant in
-    record { puts = puts_taken (omega (arith, length_flat c.args.words.now, c.room.ensures)) end.is; stays = stays_if_taken }
+    writes_taken _ _ (omega (arith, length_flat c.args.words.now, c.room.ensures)) (rw all at c.loop-word.invariant)
