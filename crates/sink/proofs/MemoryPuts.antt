@@ -1,11 +1,11 @@
 -- Memory of which the first bytes are a sink's, after a put.
-use Rattle.std.proofs.Common.{◌≡◌, ℕ, ◌+◌, ◌≤◌, cond, List, [], ◌∷◌, ◌++◌, length, take, drop, is_ok, Result, sym, refl, ap, ◌∙◌, arith, take_all}
+use Rattle.std.proofs.Common.{◌≡◌, ℕ, ◌+◌, ◌≤◌, List, [], ◌∷◌, ◌++◌, length, take, Result, sym, refl, ap, ◌∙◌, arith, take_all}
 use Rattle.std.proofs.Math.Seq.{paste}
 use Rattle.std.proofs.lemmas.List.{drop-drop}
 use Rattle.std.proofs.lemmas.List.Edits.{length-paste, take-paste, drop-paste}
 use Rattle.sink.specs.declared.refusal.Refusal.{Refusal}
 use Rattle.sink.specs.Meaning.{grown, View, Puts, answer}
-use Rattle.sink.specs.Memory.{capacity, memory_view, fresh_view}
+use Rattle.sink.specs.Memory.{capacity, memory_view, fresh_view, memory_after}
 use Rattle.sink.proofs.Grown.{same_view, puts_loans, puts_whole}
 
 -- the part stands after the bytes
@@ -23,7 +23,7 @@ memory_put m part len loan fits =
 pub record Written (r : Result Unit Refusal) (text m m' : List ℕ) (o : ℕ) (os : List ℕ) : Type 0 where
   pub place : (o ∷ []) ≡ os
   pub answers : r ≡ answer (length text) (capacity m)
-  pub holds : m' ≡ cond (is_ok r) (text ++ drop (length text) m) m
+  pub holds : m' ≡ memory_after r text m
 
 -- said of any sink that was fresh over m, and ends with m' in its memory and nothing held back
 pub landed : (r : Result Unit Refusal) (text m m' : List ℕ) (o : ℕ) {v w : View} → v ≡ fresh_view m o → Puts r text v w → m' ≡ w.bytes ++ w.beyond → Written r text m m' o w.loans

@@ -1,6 +1,7 @@
 -- The meaning of memory of which the first bytes are a sink's.
 use Rattle.std.proofs.Common.{arith, sym, ◌∙◌, length-take, take_all}
-use Rattle.std.specs.Prelude.{◌≡◌, ℕ, ◌-◌, ◌≤◌, min, List, [], ◌∷◌, length, take, drop}
+use Rattle.std.specs.Prelude.{◌≡◌, ℕ, ◌-◌, ◌≤◌, min, List, [], ◌∷◌, ◌++◌, length, take, drop, is_ok, Result, if◌then◌else◌}
+use Rattle.sink.specs.declared.refusal.Refusal.{Refusal}
 use Rattle.sink.specs.Meaning.{View, Lawful, most_bytes}
 
 -- How many bytes this memory can have as a sink's.
@@ -19,6 +20,13 @@ memory_view memory len loan = record {
 -- Memory with no bytes yet.
 abbrev pub fresh_view : List ℕ → ℕ → View
 fresh_view memory loan = record { bytes = []; room = capacity memory; beyond = memory; loans = loan ∷ [] }
+
+-- How many bytes a fresh sink has after one text, and what its memory then holds.
+abbrev pub count_after : Result Unit Refusal → List ℕ → ℕ
+count_after r text = if is_ok r then length text else 0
+
+abbrev pub memory_after : Result Unit Refusal → List ℕ → List ℕ → List ℕ
+memory_after r text memory = if is_ok r then text ++ drop (length text) memory else memory
 
 pub memory_lawful : (memory : List ℕ) (len loan : ℕ) → len ≤ capacity memory → Lawful (memory_view memory len loan) 0 memory
 memory_lawful memory len loan within =

@@ -47,8 +47,7 @@ impl<'a, L: Layout> Memory<'a, L> {
         ensures count { result ≡ length (⟦<Memory<'a, L> as Sink>⟧.view self.entry).bytes }
         ensures lands { let v = ⟦<Memory<'a, L> as Sink>⟧.view self.entry in L.flat self.exit.0.now ≡ v.bytes ++ v.beyond }
     {
-        let Memory { cells: _, len } = self;
-        len
+        self.len()
     }
 }
 

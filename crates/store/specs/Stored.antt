@@ -1,6 +1,5 @@
 -- The bytes by which a script is stored, and what is told of it.
-use Rattle.std.specs.Prelude.{◌≡◌, ℕ, ◌≤◌, List, ◌++◌, length, drop, codes, decimal, is_ok, Result, if◌then◌else◌}
-use Rattle.sink.specs.declared.refusal.Refusal.{Refusal}
+use Rattle.std.specs.Prelude.{◌≡◌, ℕ, ◌≤◌, List, ◌++◌, length, codes, decimal}
 use Rattle.sink.specs.Meaning.{View, Puts}
 use Rattle.flash.specs.Words.{flat}
 use Rattle.store.specs.declared.report.Report.{Report}
@@ -24,10 +23,3 @@ pub record Stores {S : Type 0} (view : S → View) (held : S → ℕ) (memory : 
   pub none_held : held later ≡ 0
   pub lands : memory later ≡ (view later).bytes ++ (view later).beyond
   pub told : Told r (length (view later).bytes) (view later).room
-
--- How many bytes a fresh sink has after one text, and what its memory then holds.
-abbrev pub count_after : Result Unit Refusal → List ℕ → ℕ
-count_after r text = if is_ok r then length text else 0
-
-abbrev pub memory_after : Result Unit Refusal → List ℕ → List ℕ → List ℕ
-memory_after r text memory = if is_ok r then text ++ drop (length text) memory else memory

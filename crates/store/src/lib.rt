@@ -3,9 +3,9 @@
 
 ghost use Rattle.std.specs.Prelude.{◌≡◌, ◌-◌, length};
 ghost use Rattle.sink.specs.Meaning.{Writes, answer};
-ghost use Rattle.sink.specs.Memory.{capacity};
+ghost use Rattle.sink.specs.Memory.{capacity, count_after, memory_after};
 ghost use Rattle.flash.specs.Words.{flat};
-ghost use Rattle.store.specs.Stored.{stored, Told, Stores, count_after, memory_after};
+ghost use Rattle.store.specs.Stored.{stored, Told, Stores};
 
 use crate::report::Report;
 use gather::Gather;
