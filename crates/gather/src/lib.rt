@@ -16,12 +16,12 @@ mod tests;
 // The most bytes that a layer holds back.
 const MOST: usize = 64;
 
-// A sink, and its last bytes, which wait.
+// A sink, and its last bytes, which wait: no more than a layer may hold back, and than there is room for below.
 #[derive(Drop)]
 pub struct Gather<S: Sink> {
     below: S,
     waiting: ArrayVec<u8, MOST>,
-    // What waits has room below.
+    ghost few: { array_vec_len waiting ≤ most_waiting },
     ghost fits: { array_vec_len waiting ≤ (S.Sink.view below).room },
 }
 
