@@ -23,7 +23,7 @@ pub enum Open {
 
 // A step of the machine. Lengths and places are in points.
 // A place stays two numbers here and in calls: a word holds it so, and a struct would be made and taken apart at each.
-#[derive(Clone, Copy)]
+#[derive(Clone, Copy, PartialEq, Eq, Debug)]
 pub enum Step {
     Page,
     Close,
