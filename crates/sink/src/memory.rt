@@ -37,7 +37,8 @@ pub struct Memory<'a, L: Layout> {
 impl<'a, L: Layout> Memory<'a, L> {
     // An empty sink over this memory.
     pub fn new(cells: &'a mut [L::Cell]) -> Memory<'a, L>
-        ensures { ⟦<Memory<'a, L> as Sink>⟧.view result ≡ fresh_view (L.flat cells.old) cells.entry.ghost_name }
+        ensures { ⟦<Memory<'a, L> as Sink>⟧.view result
+            ≡ fresh_view (L.flat cells.old) cells.entry.ghost_name }
     {
         Memory { cells, len: 0 }
     }
@@ -45,7 +46,8 @@ impl<'a, L: Layout> Memory<'a, L> {
     // Ends the loan, and says how many bytes the sink had: they stand first in the memory, and what was beyond follows.
     pub fn close(self) -> usize
         ensures count { result ≡ length (⟦<Memory<'a, L> as Sink>⟧.view self.entry).bytes }
-        ensures lands { let v = ⟦<Memory<'a, L> as Sink>⟧.view self.entry in L.flat self.exit.0.now ≡ v.bytes ++ v.beyond }
+        ensures lands { let v = ⟦<Memory<'a, L> as Sink>⟧.view self.entry in
+            L.flat self.exit.0.now ≡ v.bytes ++ v.beyond }
     {
         self.len()
     }
@@ -62,6 +64,7 @@ impl<L: Layout> Sink for Memory<'_, L> {
 
     fn put(&mut self, part: &[u8]) -> Result<(), Refusal> {
         let n = part.len();
+        // With no star the call would go through the loan, `&mut Self`, whose `room` leads back to this impl.
         if n > (*self).room() {
             return Err(Refusal::Full);
         }

@@ -77,7 +77,8 @@ pub fn store_piled<S: Sink>(sink: &mut S, words: &[u32]) -> Report
 // Stores the words in memory of any layout: they stand first in it, and what was beyond is as it came.
 pub fn store_in<L: Layout>(memory: &mut [L::Cell], words: &[u32]) -> Report
     ensures answers { result.answer ≡ answer (length (stored words.now)) (capacity (L.flat memory.old)) }
-    ensures told { let count = count_after result.answer (stored words.now) in Told result count (capacity (L.flat memory.old) - count) }
+    ensures told { let count = count_after result.answer (stored words.now) in
+        Told result count (capacity (L.flat memory.old) - count) }
     ensures lands { L.flat memory.new ≡ memory_after result.answer (stored words.now) (L.flat memory.old) }
 {
     let mut sink = Memory::<L>::new(memory);
