@@ -4,20 +4,23 @@ use Rattle.std.proofs.Math.Seq.{paste}
 use Rattle.std.proofs.lemmas.List.{drop-drop}
 use Rattle.std.proofs.lemmas.List.Edits.{length-paste, take-paste, drop-paste}
 use Rattle.sink.specs.declared.refusal.Refusal.{Refusal}
-use Rattle.sink.specs.Meaning.{grown, View, Puts, answer}
+use Rattle.sink.specs.Meaning.{grown, View, Puts, Took, answer}
 use Rattle.sink.specs.Memory.{capacity, memory_view, fresh_view, memory_after}
 use Rattle.sink.proofs.Grown.{same_view, puts_loans, puts_whole}
 
 -- the part stands after the bytes
-pub memory_put : (m part : List ℕ) (len loan : ℕ) → len + length part ≤ capacity m → memory_view (paste m len part (length part)) (len + length part) loan ≡ grown (memory_view m len loan) part
+pub memory_put : (m m' part : List ℕ) (len loan : ℕ) → len + length part ≤ capacity m → m' ≡ paste m len part (length part) → Took part (memory_view m len loan) (memory_view m' (len + length part) loan)
 unfolding grown
-memory_put m part len loan fits =
+memory_put m m' part len loan fits wrote =
     let n = length part in
-    same_view
-    (take-paste m len part n (omega arith) (omega arith) ∙ ap (λ xs. take len m ++ xs) (take_all n part (omega arith)))
-    (omega (arith, length-paste m len part n (omega arith) (omega arith)))
-    (drop-paste m len part n (omega arith) (omega arith) ∙ sym (drop-drop n len m))
-    refl
+    record {
+      is =
+          same_view
+          (rw wrote (take-paste m len part n (omega arith) (omega arith) ∙ ap (λ xs. take len m ++ xs) (take_all n part (omega arith))))
+          (rw wrote (omega (arith, length-paste m len part n (omega arith) (omega arith))))
+          (rw wrote (drop-paste m len part n (omega arith) (omega arith) ∙ sym (drop-drop n len m)))
+          refl;
+    }
 
 -- A sink over fresh memory m, lent under the name o, after one text: what the memory m' then holds.
 pub record Written (r : Result Unit Refusal) (text m m' : List ℕ) (o : ℕ) (os : List ℕ) : Type 0 where

@@ -62,6 +62,7 @@ impl<L: Layout> Sink for Memory<'_, L> {
 
     ghost lawful = { λ s. memory_lawful (L.flat s.cells.now) s.len s.cells.ghost_name s.within };
 
+    #[tactic(auto, using(crate::proofs::Grown::writes_refused, crate::proofs::Grown::writes_taken, crate::proofs::MemoryPuts::memory_put))]
     fn put(&mut self, part: &[u8]) -> Result<(), Refusal> {
         let n = part.len();
         // With no star the call would go through the loan, `&mut Self`, whose `room` leads back to this impl.
