@@ -1,5 +1,5 @@
-// Where glyphs stand after an origin, a turn and a place, by hand.
-use crate::{Machine, Refusal};
+// Where glyphs stand after an origin, a turn and a place, and what opens in a mark, by hand.
+use crate::{Machine, Open, Refusal, Stack, Step};
 use std::process::Abort;
 use std::test::Fail;
 
@@ -29,4 +29,12 @@ fn turned_glyphs_go_up(rt: HostRuntime) -> Result<(), Fail> {
     glyph_stands(&rt, &mut machine, b'B', (1000, 160))?;
     assert!(rt; machine.place(14_391, 0) == Err(Refusal::Outside));
     Ok(())
+}
+
+#[test]
+fn text_opens_in_a_mark_and_a_page_does_not(rt: HostRuntime) {
+    let things = [Open::Page, Open::Mark { owned: true }];
+    let stack = Stack::new(&things);
+    assert!(rt; stack.is_taken(Step::Text { size: 10 }));
+    assert!(rt; !stack.is_taken(Step::Page));
 }

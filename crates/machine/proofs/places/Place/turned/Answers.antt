@@ -8,3 +8,6 @@ invariant_of-result c = grind (arith, common_steps)
 
 pub returns-clause-x : goal.returns-clause-x
 returns-clause-x c = grind (arith, common_steps)
+
+pub returns-clause-y : goal.returns-clause-y
+returns-clause-y c = grind (arith, common_steps)
