@@ -3,6 +3,5 @@ pub mod Written
 pub mod Fronts
 pub mod Stepwise
 pub mod Lawful
-pub mod Turns
 pub mod Mapped
 pub mod Taken

@@ -51,12 +51,12 @@ pub bad_counts : (text bs : List ℕ) (f : Fault) (n : ℕ) → Err f ≡ item_o
 bad_counts text bs f n e = bad_step text (next_in bs) f n e ∙ ap (λ (r : Reading). count_or text n r.halt) (sym (step_by_step bs))
 
 -- An item that is no word leaves no words.
-no_word_step : (text : List ℕ) (s : Step) (i : Result (Option ℕ) Fault) → i ≡ item_of text s → ((w : ℕ) → i ≡ Ok (Some w) → ⊥) → (onward reading_of s).words ≡ []
+no_word_step : (text : List ℕ) (s : Step) (i : Result (Option ℕ) Fault) → i ≡ item_of text s → ((w : ℕ) → ¬ i ≡ Ok (Some w)) → (onward reading_of s).words ≡ []
 no_word_step text finished i e n = refl
 no_word_step text (word v rest) i e n = absurd (n v e)
 no_word_step text (stuck why rest) i e n = refl
 
-pub no_word_left : (text bs : List ℕ) (i : Result (Option ℕ) Fault) → i ≡ item_of text (next_in bs) → ((w : ℕ) → i ≡ Ok (Some w) → ⊥) → (reading_of bs).words ≡ []
+pub no_word_left : (text bs : List ℕ) (i : Result (Option ℕ) Fault) → i ≡ item_of text (next_in bs) → ((w : ℕ) → ¬ i ≡ Ok (Some w)) → (reading_of bs).words ≡ []
 no_word_left text bs i e n = ap (λ (r : Reading). r.words) (step_by_step bs) ∙ no_word_step text (next_in bs) i e n
 
 -- The count is that of the words.

@@ -8,7 +8,7 @@ use Rattle.script.specs.declared.load.ScriptFault.TheVariants.{Unreadable, TooMa
 
 -- Where a token that cannot be read stands, and why it cannot.
 abbrev pub fault_text : Fault → List ℕ
-fault_text fault = codes "line " ++ (decimal fault.place.line ++ (codes ", column " ++ (decimal fault.place.column ++ (codes ": " ++ message_of fault.reason))))
+fault_text fault = codes "line " ++ decimal fault.place.line ++ codes ", column " ++ decimal fault.place.column ++ codes ": " ++ message_of fault.reason
 
 -- Why a script is refused.
 abbrev pub script_fault_text : ScriptFault → List ℕ

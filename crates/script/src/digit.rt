@@ -4,6 +4,7 @@ ghost use Rattle.script.specs.Digits.{hex_value, hex_digit, hex_of};
 ghost use Rattle.script.specs.Laws.{WrittenIsRead};
 
 // The value of a hexadecimal digit of either case.
+// Not by `char::to_digit`: that takes a char and gives a u32, so it is no plainer with its two conversions.
 pub fn hex_value(byte: u8) -> Option<u8>
     ensures { result ≡ hex_value byte }
 {
@@ -16,6 +17,7 @@ pub fn hex_value(byte: u8) -> Option<u8>
 }
 
 // The upper-case digit of a value below sixteen.
+// Not by `char::from_digit`: that gives a small letter, as a char, if any, so it is no plainer.
 fn hex_digit(value: u8) -> u8
     requires { value < 16 }
     ensures { result ≡ hex_digit value }

@@ -95,6 +95,7 @@ impl<'a> Reader<'a> {
     }
 
     // Takes the next word; none at the end. After a token that cannot be read the reader stands before that token.
+    // Not an `Iterator`: that would have to end after a fault, and here the same fault is told again.
     pub fn next(&mut self) -> Result<Option<u32>, Fault>
         ensures item { result ≡ item_of self.old.text.now (next_in (left self.old)) }
         ensures left { left self.new ≡ left_after (next_in (left self.old)) }

@@ -1,13 +1,13 @@
 -- The line ends before the place, and the bytes behind the last of them.
-use Rattle.std.proofs.Common.{◌≡◌, take, count_by, reverse, refl, ◌∙◌, rules, tests}
+use Rattle.std.proofs.Common.{◌≡◌, take, count_by, reverse, refl, ap, ◌∙◌, rules, tests}
 use Rattle.std.specs.List.{suffix_len}
 use Rattle.std.proofs.iter.runs.Made.{chains}
 use Rattle.std.proofs.lemmas.Iterator.Adapters.{YieldsList-from_rev_slice}
 use Rattle.std.proofs.lemmas.Iterator.Consumers.{count_from_yields_List}
 use Rattle.std.proofs.lemmas.Iterator.Search.{YieldsList-from_take_while}
+use Rattle.std.proofs.lemmas.List.{take_min}
 use Rattle.std.proofs.lemmas.List.Folds.{length-prefix_len}
 use Rattle.script.specs.Lines.{ends_line, inside_line}
-use Rattle.script.proofs.Turns.{taken}
 use Rattle.script.proofs.place.Position.of.Goals as goal
 
 pub returns : goal.returns
@@ -20,5 +20,5 @@ returns c =
     (YieldsList-from_take_while _ inside_line (YieldsList-from_rev_slice before (rw (c.take_while.ensures.source, c.rev.ensures.source, c.iter-2.ensures.rest) refl)) c.take_while.ensures.closure c.take_while.ensures.done (λ x b q k. search (rules, tests)))
     ∙ length-prefix_len inside_line (reverse before)
     in
-    let e = taken text c.min.result c.args.at c.min.ensures in
+    let e = ap (λ n. take n text) c.min.ensures ∙ take_min c.args.at text in
     rw (line, column, e) refl
