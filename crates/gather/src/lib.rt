@@ -55,7 +55,7 @@ impl<S: Sink> Gather<S> {
         ensures same { layer_view self.new ≡ layer_view self.old }
         ensures none { self.new.waiting.items ≡ [] }
     {
-        let _ = self.below.put(&self.waiting);
+        self.below.put(&self.waiting).unwrap();
         self.waiting.clear();
     }
 }
@@ -86,7 +86,7 @@ impl<S: Sink> Sink for Gather<S> {
         if n > MOST {
             return self.below.put(part);
         }
-        let _ = self.waiting.try_extend_from_slice(part);
+        self.waiting.try_extend_from_slice(part).unwrap();
         Ok(())
     }
 
