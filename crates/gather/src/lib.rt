@@ -1,9 +1,9 @@
 // A layer over any sink that gathers short parts into longer ones.
 #![tactic(auto)]
 
-ghost use Rattle.std.specs.Prelude.{◌≡◌, ◌+◌, ◌<◌, ◌≤◌, [], length};
+ghost use Rattle.std.specs.Prelude.{◌≡◌, ◌+◌, ◌≤◌, [], length};
 ghost use Rattle.arrayvec.specs.ArrayVec.{array_vec_len};
-ghost use Rattle.sink.specs.Meaning.{grown, Writes};
+ghost use Rattle.sink.specs.Meaning.{Writes};
 ghost use Rattle.gather.specs.Gathers.{most_waiting, gathered_lawful, WaitsIfShort};
 
 use arrayvec::ArrayVec;
