@@ -1,11 +1,11 @@
 -- Each token that is read takes at least one byte, and has a written form.
-use Rattle.std.proofs.Common.{◌≡◌, ℕ, ◌+◌, ◌<◌, ◌≤◌, Bool, true, false, List, [], ◌∷◌, length, Option, refl, arith}
+use Rattle.std.proofs.Common.{◌≡◌, ℕ, suc, ◌+◌, ◌<◌, ◌≤◌, Bool, true, false, List, [], ◌∷◌, length, Option, refl, arith}
 use Rattle.std.specs.Option.{IfSome}
 use Rattle.std.proofs.lemmas.Option.{IfSome_then}
 use Rattle.std.proofs.lemmas.Bool.Decides.{nat_tests}
-use Rattle.pdf.specs.Bytes.{regular, each, front}
+use Rattle.pdf.specs.Bytes.{regular, each, front, past}
 use Rattle.pdf.specs.Numbers.{in_range, integer}
-use Rattle.pdf.specs.Tokens.{skip, skip_from, Kind, plain, slash, paren, square, square_end, less, more, stray, kind_of, Place, among_plain, Act, act, on_act, body, word_is, lex_by, lex, token, writable}
+use Rattle.pdf.specs.Tokens.{skip, skip_from, Token, dict_open, dict_close, as_name, as_text, twice, Kind, plain, slash, paren, square, square_end, less, more, stray, kind_of, Place, among_plain, Act, act, on_act, body, word_is, lex_by, lex, token, writable}
 use Rattle.pdf.proofs.Runs.{past_le, front_each}
 
 -- What a reader gives, if anything, passes the test, and less than n bytes are left.
@@ -38,14 +38,23 @@ plain_regular c e = grind (arith, nat_tests)
 plain_gives : (c : ℕ) (cs : List ℕ) → regular c ≡ true → Gives writable (lex_by plain c cs) (length (c ∷ cs))
 plain_gives c cs r = grind (arith, run_writable (front regular (c ∷ cs)), front_each regular (c ∷ cs), past_le regular cs)
 
-kind_gives : (k : Kind) (c : ℕ) (cs : List ℕ) → kind_of c ≡ k → Gives writable (lex_by k c cs) (length (c ∷ cs))
+name_gives : (bs rest : List ℕ) (n : ℕ) → length rest ≤ n → Gives writable (as_name bs rest) (suc n)
+name_gives bs rest n l = grind arith
+
+text_gives : (o : Option (List ℕ × List ℕ)) (n : ℕ) → (IfSome o λ r. length r.1 ≤ n) → Gives writable (as_text o) (suc n)
+text_gives o n h = grind arith
+
+twice_gives : (x : ℕ) (t : Token) (cs : List ℕ) → writable t ≡ true → Gives writable (twice x t cs) (suc (length cs))
+twice_gives x t cs w = grind arith
+
+kind_gives : (k : Kind) (c : ℕ) (cs : List ℕ) → kind_of c ≡ k → Gives writable (lex_by k c cs) (suc (length cs))
 kind_gives plain c cs e = plain_gives c cs (plain_regular c e)
-kind_gives slash c cs e = grind (arith, past_le regular cs)
-kind_gives paren c cs e = grind (arith, body_le among_plain cs)
+kind_gives slash c cs e = name_gives (front regular cs) (past regular cs) (length cs) (past_le regular cs)
+kind_gives paren c cs e = text_gives (body among_plain cs) (length cs) (body_le among_plain cs)
 kind_gives square c cs e = (refl, omega arith)
 kind_gives square_end c cs e = (refl, omega arith)
-kind_gives less c cs e = grind arith
-kind_gives more c cs e = grind arith
+kind_gives less c cs e = twice_gives 60 dict_open cs refl
+kind_gives more c cs e = twice_gives 62 dict_close cs refl
 kind_gives stray c cs e = tt
 
 lex_gives : (bs : List ℕ) → Gives writable (lex bs) (length bs)

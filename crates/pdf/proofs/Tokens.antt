@@ -2,6 +2,7 @@
 use Rattle.std.proofs.Common.{◌≡◌, ℕ, ◌<◌, true, List, [], ◌∷◌, ◌++◌, length, Some, refl, ap, ◌∙◌, append_assoc, arith}
 use Rattle.std.specs.Fmt.{signed_decimal}
 use Rattle.std.proofs.lemmas.Bool.Decides.{nat_tests}
+use Rattle.std.proofs.lemmas.Bool.{and_parts}
 use Rattle.pdf.specs.Bytes.{white, line_end, regular, name_byte, each, stops}
 use Rattle.pdf.specs.Numbers.{integer}
 use Rattle.pdf.specs.Tokens.{int, name, word, text, array_open, array_close, dict_open, dict_close, skip, skip_from, plain, among_plain, body, word_is, lex_by, lex, token, escaped}
@@ -18,7 +19,8 @@ regular_begins c cs h = grind (arith, nat_tests)
 run_token : (bs rest : List ℕ) → 0 < length bs → each regular bs ≡ true → stops rest ≡ true → token (bs ++ rest) ≡ Some (word_is (integer bs) bs, rest)
 unfolding token
 run_token [] rest l h s = absurd (omega arith)
-run_token (c ∷ cs) rest l h s = grind (arith, regular_begins c (cs ++ rest), front_is regular (c ∷ cs) rest, past_is regular (c ∷ cs) rest)
+run_token (c ∷ cs) rest l h s =
+    regular_begins c (cs ++ rest) (and_parts (regular c) (each regular cs) h).0 ∙ rw (front_is regular (c ∷ cs) rest h s, past_is regular (c ∷ cs) rest h s)
 
 name_token : (bs rest : List ℕ) → each name_byte bs ≡ true → stops rest ≡ true → token (47 ∷ (bs ++ rest)) ≡ Some (name bs, rest)
 unfolding token
