@@ -8,7 +8,7 @@ use Rattle.pdf.specs.Numbers.{in_range, integer}
 use Rattle.pdf.specs.Tokens.{skip, skip_from, Token, dict_open, dict_close, as_name, as_text, twice, Kind, plain, slash, paren, square, square_end, less, more, stray, kind_of, Place, among_plain, Act, act, on_act, body, word_is, lex_by, lex, token, writable}
 use Rattle.pdf.proofs.Runs.{past_le, front_each}
 
--- What a reader gives, if anything, passes the test, and less than n bytes are left.
+-- What a reader gives, if anything, passes the test, and fewer than n bytes are left.
 abbrev pub Gives : {A : Type 0} → (A → Bool) → Option (A × List ℕ) → ℕ → Type 0
 Gives p o n = IfSome o λ r. (p r.0 ≡ true) × (length r.1 < n)
 

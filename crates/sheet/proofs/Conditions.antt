@@ -67,8 +67,7 @@ IsFirst P None = (m : ℕ) → P m → ⊥
 IsFirst P (Some n) = P n × ((m : ℕ) → m < n → P m → ⊥)
 
 is_first-like : (P Q : ℕ → Type 0) → ((m : ℕ) → P m → Q m) → ((m : ℕ) → Q m → P m) → (o : Option ℕ) → IsFirst P o → IsFirst Q o
-is_first-like P Q to from None a = λ m q. a m (from m q)
-is_first-like P Q to from (Some n) a = (to n a.0, λ m low q. a.1 m low (from m q))
+is_first-like P Q to from o a = grind (arith, to, from)
 
 -- why a word is refused, by the five tests
 abbrev by_tests : Bool → Bool → Bool → Bool → Bool → Option WordRefusal
