@@ -16,8 +16,8 @@ all_places P (y ∷ ys) a zero x l e = subst P (sym e) a.0
 all_places P (y ∷ ys) a (suc k) x l e = all_places P ys a.1 k x (omega arith) e
 
 -- The closure may be called at each element, where it may at all that have P, as each of them does.
-pub serves_all : (P : ℕ → Type 0) (xs : List ℕ) → AllByRecursion P xs → {F : Type 0} {R : F → ℕ → F → Type 0} {Q : F → ℕ → Type 0} {f : F} → ((x : ℕ) (q : F) → R f x q → q ≡ f) → ((x : ℕ) → P x → Q f x) → CallableAtEachTurn list_steps R Q xs f
-serves_all P xs a stays may =
+pub serves_all : {F : Type 0} {R : F → ℕ → F → Type 0} {Q : F → ℕ → Type 0} {xs : List ℕ} {f : F} (P : ℕ → Type 0) → ((x : ℕ) (q : F) → R f x q → q ≡ f) → ((x : ℕ) → P x → Q f x) → AllByRecursion P xs → CallableAtEachTurn list_steps R Q xs f
+serves_all {xs = xs} P stays may a =
     serves_from_places (YieldsList-from_shown list_steps (λ x. x) (λ s. s) (λ s t e. ap length e) (λ s x t e. e) xs) stays (λ x k l e. may x (all_places P xs a k x l e))
 
 -- The list that it makes.

@@ -1,14 +1,12 @@
 -- The eight digits, and the law of reading them back.
-use Rattle.std.proofs.Common.{◌<◌, ◌/◌, ◌%◌, ◌^◌, [], ◌∷◌, arith, rules, tests}
-use Rattle.std.specs.List.{AllByRecursion}
+use Rattle.std.proofs.Common.{◌<◌, ◌/◌, ◌%◌, ◌^◌, arith, rules, tests}
 use Rattle.script.specs.Digits.{hex_digit}
 use Rattle.script.proofs.Mapped.{serves_all, array_mapped}
 use Rattle.script.proofs.digit.hex.Goals as goal
 
 pub map-requires : goal.map-requires
 map-requires c =
-    let below : AllByRecursion (λ s. s < 32) (28 ∷ 24 ∷ 20 ∷ 16 ∷ 12 ∷ 8 ∷ 4 ∷ 0 ∷ []) = search rules in
-    (omega arith, (omega arith, (omega arith, serves_all (λ s. s < 32) _ below (λ x q h. let k = h.1 in search (rules, tests)) (λ x small. search (rules, tests)))))
+    (omega arith, (omega arith, (omega arith, serves_all (λ s. s < 32) (λ x q h. let k = h.1 in search (rules, tests)) (λ x small. search (rules, tests)) (search rules))))
 
 pub returns-clause-digits : goal.returns-clause-digits
 returns-clause-digits c =
