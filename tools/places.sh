@@ -33,5 +33,5 @@ show '6 memory with a count, as parameters' src 'fn .*memory: &.*count: usize|fn
 show '6 arrays beside one another' src 'zip\('
 show '7 numbers or enums that pick a step, tables of functions' src 'enum Thing|thing: Thing|\bfn\(|dyn '
 printf '== 8 files of answers and invariants: %s; lines in proofs/: %s\n' \
-    "$(find crates -path '*/proofs/*' \( -name Answers.antt -o -name Invariants.antt \) | wc -l)" \
-    "$(find crates -path '*/proofs/*' -name '*.antt' -print0 | xargs -0 cat | wc -l)"
+    "$(find crates -path '*/proofs/*' -not -path '*/out/*' \( -name Answers.antt -o -name Invariants.antt \) | wc -l)" \
+    "$(find crates -path '*/proofs/*' -not -path '*/out/*' -name '*.antt' -print0 | xargs -0 cat | wc -l)"

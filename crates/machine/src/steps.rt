@@ -6,6 +6,7 @@ use crate::types::Step;
 use page::Word;
 
 // The step of a word; an element word is none.
+// Not `TryFrom`: an element word is no error, so there is none to name.
 pub fn step_of(word: Word) -> Option<Step>
     ensures { result ≡ step_of word }
 {

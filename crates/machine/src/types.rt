@@ -1,7 +1,7 @@
 // The types of the page machine: what is open, a step, the machine's numbers, and what is drawn.
 use page::{Codes, PaintOperator};
 
-// Where the axes stand: quarters of a whole turn, and the offset in points.
+// Where the axes stand: quarters of a whole turn, and the offset in points. The quarters are a count, which is added to.
 #[derive(Clone, Copy, PartialEq, Eq, Debug, Default)]
 pub struct Axes {
     pub turn: u8,
@@ -75,6 +75,8 @@ pub enum Letter {
 }
 
 // A drawn thing. Its place is in tenths of a point.
+// Every letter has all the fields, and a paint's operator is a number: they are those of an item, the record of a tray
+// that the caller of the library lends and reads.
 #[derive(Clone, Copy, PartialEq, Eq, Debug)]
 pub struct Drawn {
     pub letter: Letter,

@@ -13,6 +13,7 @@ use crate::fields::{
 use crate::types::{Codes, ElementType, Kind, PaintOperator, Refusal, Word};
 
 // The word that 32 bits say, or why they are refused.
+// Not `TryFrom`: `decode` and `encode` say which way they go, and `encode` has no error to name.
 pub fn decode(word: u32) -> Result<Word, Refusal>
     ensures value { result ≡ decoded word }
     ensures undone { DecodeUndone word result }

@@ -121,7 +121,7 @@ impl From<ElementType> for u16 {
 }
 
 impl ElementType {
-    // The type's name in a file.
+    // The type's name in a file. Printing goes by it; a file is made of its bytes, with no formatter.
     pub fn name(self) -> &'static str
         ensures { result.now ≡ name_of self }
     {
@@ -175,7 +175,7 @@ impl From<PaintOperator> for u32 {
 }
 
 impl PaintOperator {
-    // The letter that stands for the operator in a page's contents.
+    // The letter that stands for the operator in a page's contents; its number is what `From` gives.
     pub fn letter(self) -> u8
         ensures { result ≡ letter_of self }
     {

@@ -38,6 +38,7 @@ fn digit_at(word: u32, shift: u32) -> u8
 }
 
 // A word as eight upper-case digits, the most significant first.
+// Not by `{:08X}`: that writes to a formatter, and these are bytes for any use, in no memory but their own.
 #[tactic(auto, using(crate::proofs::Lawful::written_is_read))]
 pub fn hex(word: u32) -> [u8; 8]
     ensures digits { result ≡ hex_of word }

@@ -15,7 +15,7 @@ pub enum Reason {
 }
 
 impl Reason {
-    // What to tell the author of a script.
+    // What to tell the author of a script. Printing goes by it.
     pub fn message(self) -> &'static str
         ensures { result.now ≡ message_of self }
     {

@@ -2,7 +2,7 @@
 use page::{Codes, ElementType, PaintOperator};
 
 // An instruction with its operands. The names in comments are the operators of the file format.
-#[derive(Clone, Copy)]
+#[derive(Clone, Copy, PartialEq, Eq, Debug)]
 pub enum Instruction {
     // q and Q
     Save,

@@ -5,7 +5,7 @@ use machine::Letter;
 // element's number in reading order, from 1.
 // Every letter has all the fields, and a paint's operator is a number: this is the record of the item tray, which the
 // caller of the library lends and reads.
-#[derive(Clone, Copy)]
+#[derive(Clone, Copy, PartialEq, Eq, Debug)]
 pub struct Item {
     pub letter: Letter,
     pub page: u32,

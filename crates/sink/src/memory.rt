@@ -27,6 +27,7 @@ pub trait Layout {
 }
 
 // Memory whose first `len` bytes are the sink's.
+// The count stays beside the cells: they are lent, in a length that the lender chooses, and go back whole.
 #[derive(Drop)]
 pub struct Memory<'a, L: Layout> {
     cells: &'a mut [L::Cell],

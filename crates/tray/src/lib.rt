@@ -36,6 +36,7 @@ impl Error for Refusal {}
 
 // A list of records in memory that was lent. The first `count` records of the memory are the list; the memory beyond
 // them is left as it is.
+// The count stays beside the memory: that is lent, in a length that the lender chooses, and goes back whole.
 #[derive(Drop)]
 pub struct Tray<'a, T> {
     memory: &'a mut [T],
