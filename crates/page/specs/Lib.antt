@@ -4,3 +4,4 @@ pub mod Fields
 pub mod Decoded
 pub mod Encoded
 pub mod Laws
+pub mod Printed

@@ -1,9 +1,14 @@
 // What a word says, in plain terms.
+ghost use Rattle.page.specs.Printed.{codes_text, word_text};
+ghost use Rattle.std.specs.Prelude.{Some};
+
 use crate::types::{Codes, Word};
 use std::fmt;
 
 // The codes as text.
 impl fmt::Display for Codes {
+    ghost output = { λ codes. Some (codes_text codes) };
+
     fn fmt<W: fmt::Write>(&self, f: &mut fmt::Formatter<W>) -> fmt::Result {
         match *self {
             Codes::One(x) => write!(f, "{}", x as char),
@@ -15,6 +20,8 @@ impl fmt::Display for Codes {
 
 // The kind of the word, and its fields.
 impl fmt::Display for Word {
+    ghost output = { λ word. Some (word_text word) };
+
     fn fmt<W: fmt::Write>(&self, f: &mut fmt::Formatter<W>) -> fmt::Result {
         let kind = self.kind();
         match *self {
