@@ -9,7 +9,7 @@ use crate::refusals::Refusal;
 use crate::types::{Axes, TextLine};
 
 // A place. It is so near to the origin that it can be turned and moved.
-#[derive(Clone, Copy)]
+#[derive(Clone, Copy, PartialEq, Eq, Debug)]
 pub(crate) struct Place {
     x: i64,
     y: i64,

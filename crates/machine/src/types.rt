@@ -22,6 +22,7 @@ pub enum Open {
 }
 
 // A step of the machine. Lengths and places are in points.
+// No word: it has no size of a page, no element, and of a mark only whether it is owned. What a file does is told in steps too.
 // A place stays two numbers here and in calls: a word holds it so, and a struct would be made and taken apart at each.
 #[derive(Clone, Copy, PartialEq, Eq, Debug)]
 pub enum Step {

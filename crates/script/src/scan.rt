@@ -29,7 +29,7 @@ impl fmt::Display for Fault {
 impl Error for Fault {}
 
 // A text, and what of it is still to be read.
-#[derive(Clone, Copy)]
+#[derive(Clone, Copy, PartialEq, Eq, Debug)]
 pub struct Reader<'a> {
     text: &'a [u8],
     rest: &'a [u8],

@@ -44,6 +44,7 @@ pub struct Tray<'a, T> {
     ghost within: { count ≤ length memory.now },
 }
 
+// That a call keeps the loan is said at each: it is of a tray before and after, and a type can only say it of one.
 impl<'a, T: Copy> Tray<'a, T> {
     ghost use Rattle.tray.specs.Trays.{lent, lender, records, beyond, room, answer, last_of, front_of, TakesLast};
 
