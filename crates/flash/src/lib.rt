@@ -4,7 +4,7 @@
 ghost use Rattle.std.specs.Prelude.{◌≡◌, ◌+◌, ◌*◌, ◌<◌, ◌≤◌, length, slice_set};
 ghost use Rattle.flash.specs.Words.{flat};
 
-use sink::memory::{Layout, MOST, Memory};
+use sink::memory::{Layout, Memory};
 
 // Four bytes to a word, the earliest in its top bits.
 pub struct Words;
@@ -28,14 +28,17 @@ impl Layout for Words {
     ghost flat = { flat };
 
     #[tactic(auto, using(crate::proofs::Packs::length_flat))]
-    fn capacity(words: &[u32]) -> usize {
-        words.len().min(MOST / 4) * 4
+    fn size(words: &[u32]) -> usize {
+        4 * words.len()
     }
 
     #[tactic(auto, using(crate::proofs::Packs::length_flat, std::proofs::lemmas::List::Edits::paste_more))]
     fn write(words: &mut [u32], at: usize, part: &[u8]) {
-        for (i, b) in part.iter().enumerate() {
-            set_byte(words, at + i, *b);
+        let size = Words::size(words);
+        if at <= size && part.len() <= size - at {
+            for (i, b) in part.iter().enumerate() {
+                set_byte(words, at + i, *b);
+            }
         }
     }
 }

@@ -22,7 +22,7 @@ pub struct Gather<S: Sink> {
     below: S,
     waiting: ArrayVec<u8, MOST>,
     ghost few: { array_vec_len waiting ≤ most_waiting },
-    ghost fits: { array_vec_len waiting ≤ (S.Sink.view below).room },
+    ghost fits: { array_vec_len waiting ≤ (S.view below).room },
 }
 
 impl<S: Sink> Gather<S> {
@@ -31,7 +31,7 @@ impl<S: Sink> Gather<S> {
     // A layer over a sink, with nothing waiting.
     #[tactic(auto, unfolding(sink::specs::Meaning::grown))]
     pub fn new(below: S) -> Gather<S>
-        ensures same { layer_view result ≡ S.Sink.view below }
+        ensures same { layer_view result ≡ S.view below }
         ensures none { waiting_in result ≡ 0 }
         ensures sink { result.below ≡ below }
     {
@@ -67,14 +67,14 @@ impl<S: Sink> Sink for Gather<S> {
 
     ghost held = { layer_held };
 
-    ghost memory = { λ s. S.Sink.memory s.below };
+    ghost memory = { λ s. S.memory s.below };
 
-    ghost lawful = { λ s. gathered_lawful s.waiting.items s.fits (S.Sink.lawful s.below) };
+    ghost lawful = { λ s. gathered_lawful s.waiting.items s.fits (S.lawful s.below) };
 
     #[tactic(auto, unfolding(sink::specs::Meaning::grown))]
     fn put(&mut self, part: &[u8]) -> Result<(), Refusal>
-        ensures writes { Writes layer_view layer_held (λ s. S.Sink.memory s.below) result part.now self.old self.new }
-        ensures gathers { WaitsIfShort result (length part.now) (waiting_in self.old) (waiting_in self.new) (S.Sink.view self.old.below) (S.Sink.view self.new.below) }
+        ensures writes { Writes layer_view layer_held (λ s. S.memory s.below) result part.now self.old self.new }
+        ensures gathers { WaitsIfShort result (length part.now) (waiting_in self.old) (waiting_in self.new) (S.view self.old.below) (S.view self.new.below) }
     {
         let n = part.len();
         if n > (*self).room() {

@@ -2,7 +2,7 @@
 #![tactic(auto)]
 
 ghost use Rattle.std.specs.Prelude.{◌≡◌, ◌≤◌, [], ◌∷◌, ◌++◌, length, decimal};
-ghost use Rattle.sink.specs.Meaning.{Writes};
+ghost use Rattle.sink.specs.Calls.{Takes};
 
 use itoa::Buffer;
 use sink::Sink;
@@ -18,7 +18,7 @@ pub fn digits(n: u64) -> usize
 
 // Puts n in decimal, with no sign and no leading zero.
 pub fn number<S: Sink>(sink: &mut S, n: u64) -> Result<(), Refusal>
-    ensures { Writes S.Sink.view S.Sink.held S.Sink.memory result (decimal n) sink.old sink.new }
+    ensures { Takes S.Sink result (decimal n) sink.old sink.new }
 {
     let mut buffer = Buffer::new();
     sink.put(buffer.format(n).as_bytes())
@@ -26,7 +26,7 @@ pub fn number<S: Sink>(sink: &mut S, n: u64) -> Result<(), Refusal>
 
 // Puts a text and the LF that ends its line, both or neither.
 pub fn line<S: Sink>(sink: &mut S, text: &[u8]) -> Result<(), Refusal>
-    ensures { Writes S.Sink.view S.Sink.held S.Sink.memory result (text.now ++ 10 ∷ []) sink.old sink.new }
+    ensures { Takes S.Sink result (text.now ++ 10 ∷ []) sink.old sink.new }
 {
     if text.len() >= (*sink).room() {
         return Err(Refusal::Full);

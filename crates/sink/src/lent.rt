@@ -5,13 +5,13 @@ use crate::Sink;
 use crate::refusal::Refusal;
 
 impl<S: Sink> Sink for &mut S {
-    ghost view = { λ s. lent s.ghost_name (S.Sink.view s.now) };
+    ghost view = { λ s. lent s.ghost_name (S.view s.now) };
 
-    ghost held = { λ s. S.Sink.held s.now };
+    ghost held = { λ s. S.held s.now };
 
-    ghost memory = { λ s. S.Sink.memory s.now };
+    ghost memory = { λ s. S.memory s.now };
 
-    ghost lawful = { λ s. lent_lawful s.ghost_name (S.Sink.lawful s.now) };
+    ghost lawful = { λ s. lent_lawful s.ghost_name (S.lawful s.now) };
 
     fn put(&mut self, part: &[u8]) -> Result<(), Refusal> {
         (**self).put(part)

@@ -1,5 +1,5 @@
 // A sink over memory that is lent to it, in cells of any layout.
-ghost use Rattle.std.specs.Prelude.{◌≡◌, ◌+◌, ◌≤◌, ◌++◌, ℕ, List, length};
+ghost use Rattle.std.specs.Prelude.{◌≡◌, ◌+◌, ◌<◌, ◌≤◌, ◌++◌, ℕ, List, length};
 ghost use Rattle.std.proofs.Math.Seq.{paste};
 ghost use Rattle.sink.specs.Memory.{capacity, fresh_view, memory_view, memory_lawful};
 
@@ -7,7 +7,7 @@ use crate::Sink;
 use crate::refusal::Refusal;
 
 // The most bytes that a sink takes.
-pub const MOST: usize = 16_777_216;
+const MOST: usize = 16_777_216;
 
 // How a sink's bytes lie in the cells of its memory.
 pub trait Layout {
@@ -16,14 +16,15 @@ pub trait Layout {
     // The bytes of some cells, in order.
     ghost flat: { List Self.Cell → List ℕ };
 
-    // How many bytes a sink over these cells takes.
-    fn capacity(cells: &[Self::Cell]) -> usize
-        ensures { result ≡ capacity (flat cells.now) };
+    // How many bytes some cells have.
+    fn size(cells: &[Self::Cell]) -> usize
+        ensures { result ≡ length (flat cells.now) };
 
-    // Writes part over the bytes from `at` on.
+    // Writes part over the bytes from `at` on, if they are all there; else nothing.
     fn write(cells: &mut [Self::Cell], at: usize, part: &[u8])
-        requires { at + length part.now ≤ length (flat cells.old) }
-        ensures { flat cells.new ≡ paste (flat cells.old) at part.now (length part.now) };
+        ensures whole { at + length part.now ≤ length (flat cells.old)
+            → flat cells.new ≡ paste (flat cells.old) at part.now (length part.now) }
+        ensures none { length (flat cells.old) < at + length part.now → flat cells.new ≡ flat cells.old };
 }
 
 // Memory whose first `len` bytes are the sink's.
@@ -80,7 +81,7 @@ impl<L: Layout> Sink for Memory<'_, L> {
     }
 
     fn room(&self) -> usize {
-        L::capacity(self.cells) - self.len
+        L::size(self.cells).min(MOST) - self.len
     }
 
     fn held(&self) -> usize {

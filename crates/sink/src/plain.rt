@@ -1,7 +1,7 @@
 // A sink over plain memory: bytes that are lent to it.
 ghost use Rattle.std.specs.Prelude.{◌+◌, ◌≤◌};
 
-use crate::memory::{Layout, MOST, Memory};
+use crate::memory::{Layout, Memory};
 
 // Bytes as they are.
 pub struct Bytes;
@@ -13,11 +13,14 @@ impl Layout for Bytes {
 
     ghost flat = { λ bytes. bytes };
 
-    fn capacity(bytes: &[u8]) -> usize {
-        bytes.len().min(MOST)
+    fn size(bytes: &[u8]) -> usize {
+        bytes.len()
     }
 
     fn write(bytes: &mut [u8], at: usize, part: &[u8]) {
-        bytes[at..at + part.len()].copy_from_slice(part);
+        let n = part.len();
+        if at <= bytes.len() && n <= bytes.len() - at {
+            bytes[at..at + n].copy_from_slice(part);
+        }
     }
 }

@@ -1,6 +1,7 @@
 -- The bytes by which a script is stored, and what is told of it.
 use Rattle.std.specs.Prelude.{◌≡◌, ℕ, ◌≤◌, List, ◌++◌, length, codes, decimal}
-use Rattle.sink.specs.Meaning.{View, Puts}
+use Rattle.sink.specs.declared.Sink.{Ghosts}
+use Rattle.sink.specs.Meaning.{Puts}
 use Rattle.flash.specs.Words.{flat}
 use Rattle.store.specs.declared.report.Report.{Report}
 
@@ -16,10 +17,10 @@ pub record Told (r : Report) (count left : ℕ) : Type 0 where
   pub waits : r.waits ≡ 0
   pub waited : r.waited ≤ count
 
--- What a call says that stores words in a sink, whose meaning is told by view, held and memory: all the words are put,
--- or none; the sink is left settled, its memory the bytes and then what lies beyond; and the report tells the truth.
-pub record Stores {S : Type 0} (view : S → View) (held : S → ℕ) (memory : S → List ℕ) (r : Report) (words : List ℕ) (before later : S) : Type 0 where
-  pub puts : Puts r.answer (stored words) (view before) (view later)
-  pub none_held : held later ≡ 0
-  pub lands : memory later ≡ (view later).bytes ++ (view later).beyond
-  pub told : Told r (length (view later).bytes) (view later).room
+-- What a call says that stores words in a sink: all the words are put, or none; the sink is left settled, its memory the
+-- bytes and then what lies beyond; and the report tells the truth.
+pub record Stores {S : Type 0} (sink : Ghosts S) (r : Report) (words : List ℕ) (before later : S) : Type 0 where
+  pub puts : Puts r.answer (stored words) (sink.view before) (sink.view later)
+  pub none_held : sink.held later ≡ 0
+  pub lands : sink.memory later ≡ (sink.view later).bytes ++ (sink.view later).beyond
+  pub told : Told r (length (sink.view later).bytes) (sink.view later).room

@@ -2,7 +2,8 @@
 #![tactic(auto)]
 
 ghost use Rattle.std.specs.Prelude.{◌≡◌, ◌-◌, length};
-ghost use Rattle.sink.specs.Meaning.{Writes, answer};
+ghost use Rattle.sink.specs.Calls.{Takes};
+ghost use Rattle.sink.specs.Meaning.{answer};
 ghost use Rattle.sink.specs.Memory.{capacity, count_after, memory_after};
 ghost use Rattle.flash.specs.Words.{flat};
 ghost use Rattle.store.specs.Stored.{stored, Told, Stores};
@@ -22,7 +23,7 @@ const UNIT: usize = 7;
 // Puts each word as four bytes, the top bits first, all or none.
 #[tactic(auto, using(sink::proofs::Grown::writes_refused, sink::proofs::Grown::took_none, flash::proofs::Packs::length_flat))]
 pub fn put_words<S: Sink>(sink: &mut S, words: &[u32]) -> Result<(), Refusal>
-    ensures { Writes S.view S.held S.memory result (flat words.now) sink.old sink.new }
+    ensures { Takes S.Sink result (flat words.now) sink.old sink.new }
 {
     if words.len() > (*sink).room() / 4 {
         return Err(Refusal::Full);
@@ -36,7 +37,7 @@ pub fn put_words<S: Sink>(sink: &mut S, words: &[u32]) -> Result<(), Refusal>
 // Puts how many words there are as a line of text, and then the words, all or none.
 #[tactic(auto, using(sink::proofs::Grown::writes_refused, crate::proofs::Flats::length_stored))]
 pub fn store<S: Sink>(sink: &mut S, words: &[u32]) -> Result<(), Refusal>
-    ensures { Writes S.view S.held S.memory result (stored words.now) sink.old sink.new }
+    ensures { Takes S.Sink result (stored words.now) sink.old sink.new }
 {
     let count = words.len() as u64;
     let head = digits(count) + UNIT;
@@ -51,7 +52,7 @@ pub fn store<S: Sink>(sink: &mut S, words: &[u32]) -> Result<(), Refusal>
 
 // Stores the words through a layer over any sink that is lent, and settles it.
 pub fn store_gathered<S: Sink>(sink: &mut S, words: &[u32]) -> Report
-    ensures { Stores S.view S.held S.memory result words.now sink.old sink.new }
+    ensures { Stores S.Sink result words.now sink.old sink.new }
 {
     let mut layer = Gather::new(sink);
     let answer = store(&mut layer, words);
@@ -68,7 +69,7 @@ pub fn store_gathered<S: Sink>(sink: &mut S, words: &[u32]) -> Report
 
 // Stores the words through two layers, one upon the other, over any sink that is lent, and settles both.
 pub fn store_piled<S: Sink>(sink: &mut S, words: &[u32]) -> Report
-    ensures { Stores S.view S.held S.memory result words.now sink.old sink.new }
+    ensures { Stores S.Sink result words.now sink.old sink.new }
 {
     let mut lower = Gather::new(sink);
     store_gathered(&mut lower, words)

@@ -44,7 +44,8 @@ pub struct Tray<'a, T> {
     ghost within: { count ≤ length memory.now },
 }
 
-// That a call keeps the loan is said at each: it is of a tray before and after, and a type can only say it of one.
+// Each call that changes a tray says that the loan stays: a fact of the type cannot, since it sees one tray, and not the
+// tray before.
 impl<'a, T: Copy> Tray<'a, T> {
     ghost use Rattle.tray.specs.Trays.{lent, lender, records, beyond, room, answer, last_of, front_of, TakesLast};
 
@@ -74,7 +75,7 @@ impl<'a, T: Copy> Tray<'a, T> {
         ensures count { result ≡ length (records self.now) }
         ensures within { result ≤ length (lent self.now) }
     {
-        self.count
+        self.as_slice().len()
     }
 
     // How many records the memory has place for.
@@ -102,8 +103,8 @@ impl<'a, T: Copy> Tray<'a, T> {
     pub fn find(&self, key: u64) -> Option<T>
     where
         T: Keyed,
-        ensures value { result ≡ find (with_key T.Keyed.key key) (records self.now) }
-        ensures first { FirstWith (λ x. T.Keyed.key x ≡ key) (records self.now) result }
+        ensures value { result ≡ find (with_key T.key key) (records self.now) }
+        ensures first { FirstWith (λ x. T.key x ≡ key) (records self.now) result }
     {
         self.as_slice().iter().find(|x| x.key() == key).copied()
     }
@@ -142,7 +143,7 @@ impl<'a, T: Copy> Tray<'a, T> {
     where
         T: Zero,
         ensures list { records self.new ≡ records self.old }
-        ensures rest { beyond self.new ≡ replicate (length (beyond self.old)) T.Zero.zero }
+        ensures rest { beyond self.new ≡ replicate (length (beyond self.old)) T.zero }
         ensures loan { lender self.new ≡ lender self.old }
     {
         zero::fill(&mut self.memory[self.count..]);
@@ -153,7 +154,7 @@ impl<'a, T: Copy> Tray<'a, T> {
     where
         T: Zero,
         ensures list { records self.new ≡ [] }
-        ensures zeros { lent self.new ≡ replicate (length (lent self.old)) T.Zero.zero }
+        ensures zeros { lent self.new ≡ replicate (length (lent self.old)) T.zero }
         ensures loan { lender self.new ≡ lender self.old }
     {
         self.count = 0;

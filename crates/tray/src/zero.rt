@@ -14,7 +14,7 @@ pub trait Zero: Sized {
 
 // Makes every record zero.
 pub fn fill<T: Copy + Zero>(memory: &mut [T])
-    ensures { memory.new ≡ replicate (length memory.old) T.Zero.zero }
+    ensures { memory.new ≡ replicate (length memory.old) T.zero }
 {
     // Not by std's `fill`: that asks more of T, namely that a clone is the record itself.
     let zero = T::zero();
