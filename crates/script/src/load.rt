@@ -49,6 +49,7 @@ pub fn count_words(text: &[u8]) -> Result<usize, Fault>
 {
     let mut reader = Reader::new(text);
     let mut count: usize = 0;
+    // No `for` or `count`: a reader may fail, and is no iterator.
     while reader.next()?.is_some() {
         count += 1;
     }

@@ -1,5 +1,5 @@
 // A reader that takes a script's words from its text, one after another.
-ghost use Rattle.std.specs.Prelude.{◌≡◌, ℕ, ◌<◌, ◌≤◌, false, length, Some};
+ghost use Rattle.std.specs.Prelude.{◌≡◌, ℕ, ◌-◌, ◌<◌, ◌≤◌, false, length, drop, Some};
 ghost use Rattle.std.specs.List.{prefix_len};
 ghost use Rattle.script.specs.Readings.{white, ends_comment, in_token, skip_from, next_in, left_after};
 ghost use Rattle.script.specs.Texts.{fault_text};
@@ -28,12 +28,12 @@ impl fmt::Display for Fault {
 
 impl Error for Fault {}
 
-// A text, and what of it is still to be read.
+// A text, and what of it is still to be read: an end of the text.
 #[derive(Clone, Copy, PartialEq, Eq, Debug)]
 pub struct Reader<'a> {
     text: &'a [u8],
     rest: &'a [u8],
-    ghost within: { length rest.now ≤ length text.now },
+    ghost rest_ends_text: { rest.now ≡ drop (length text.now - length rest.now) text.now },
 }
 
 // White space: tab, LF, vertical tab, form feed, CR or space.
@@ -60,7 +60,7 @@ fn is_in_token(byte: u8) -> bool
 // What follows the white space and the comments in front.
 fn skip(text: &[u8]) -> &[u8]
     ensures rest { result.now ≡ skip_from false text.now }
-    ensures no_longer { length result.now ≤ length text.now }
+    ensures ends_text { result.now ≡ drop (length text.now - length result.now) text.now }
 {
     let mut comment = false;
     for (i, byte) in text.iter().enumerate() {
@@ -95,7 +95,7 @@ impl<'a> Reader<'a> {
     }
 
     // Takes the next word; none at the end. After a token that cannot be read the reader stands before that token.
-    // Not an `Iterator`: that would have to end after a fault, and here the same fault is told again.
+    // Not an `Iterator`: a fault is told again and again, so it is endless, and no `for` or `count` over it is proved.
     pub fn next(&mut self) -> Result<Option<u32>, Fault>
         ensures item { result ≡ item_of self.old.text.now (next_in (left self.old)) }
         ensures left { left self.new ≡ left_after (next_in (left self.old)) }

@@ -15,7 +15,7 @@ pub enum Reason {
 }
 
 impl Reason {
-    // What to tell the author of a script. Printing goes by it.
+    // What to tell the author of a script. A method, for callers that have no formatter.
     pub fn message(self) -> &'static str
         ensures { result.now ≡ message_of self }
     {
