@@ -4,16 +4,11 @@ ghost use Rattle.script.specs.Digits.{hex_value, hex_digit, hex_of};
 ghost use Rattle.script.specs.Laws.{WrittenIsRead};
 
 // The value of a hexadecimal digit of either case.
-// Not by `char::to_digit`: that takes a char and gives a u32, so it is no plainer with its two conversions.
 pub fn hex_value(byte: u8) -> Option<u8>
     ensures { result ≡ hex_value byte }
 {
-    match byte {
-        b'0'..=b'9' => Some(byte - b'0'),
-        b'A'..=b'F' => Some(byte - b'A' + 10),
-        b'a'..=b'f' => Some(byte - b'a' + 10),
-        _ => None,
-    }
+    let digit = char::from(byte).to_digit(16)?;
+    Some(digit as u8)
 }
 
 // The upper-case digit of a value below sixteen.
