@@ -24,6 +24,7 @@ pub enum FaultKind {
 }
 
 // A fault, with the object or entry that it is found in (0 if none) and an offset in the file.
+// No `Option`: the outputs fix the 0, which names the free entry too.
 #[derive(Clone, Copy, PartialEq, Eq, Debug)]
 pub struct Fault {
     pub kind: FaultKind,
@@ -32,6 +33,7 @@ pub struct Fault {
 }
 
 // The number that a fault is known by.
+// A table and no discriminants: with those, two cases with one number, as an edit that must fail has them, would not compile.
 impl From<FaultKind> for u32 {
     ghost from_gives = { λ kind number. number ≡ fault_number kind };
 

@@ -35,7 +35,7 @@ pub enum WordRefusal {
 }
 
 // A refused word: its place in the script, from 0, and the number of the refusal.
-// A number and no enum: this is the record of the note tray, which the caller of the library lends and reads.
+// A number and no enum: the outputs fix this record of a lent tray, which has zeros after the last note.
 #[derive(Clone, Copy, PartialEq, Eq, Debug)]
 pub struct Note {
     pub place: u32,
@@ -43,6 +43,7 @@ pub struct Note {
 }
 
 // The number that a refusal to begin is known by.
+// A table and no discriminants: with those, two cases with one number, as an edit that must fail has them, would not compile.
 impl From<BeginRefusal> for u32 {
     ghost from_gives = { λ refusal number. number ≡ begin_number refusal };
 
