@@ -14,30 +14,28 @@ pub fn encode(word: Word) -> Option<u32>
     ensures undone { EncodeUndone word result }
     ensures refused { EncodeRefused word result }
 {
-    let payload = payload(word)?;
+    let payload = payload(&word)?;
     Some(join(word.kind(), payload))
 }
 
 // The payload of a word, if each of its fields is in range.
-fn payload(word: Word) -> Option<Payload>
-    ensures { with_payload (word_kind word) result ≡ encoded word }
+fn payload(word: &Word) -> Option<Payload>
+    ensures { with_payload (word_kind word.now) result ≡ encoded word.now }
 {
-    // Two signed fields have four arms: a pattern that binds in several variants gets no proof.
+    // By reference: where the word itself is matched, the arm of four variants gets no proof.
     match word {
-        Word::Page { width, height } => page(width, height),
+        Word::Page { width, height } => page(*width, *height),
         Word::Close | Word::Save => Some(Payload { bits: 0 }),
-        Word::Element { parent, role } => element(parent, role),
-        Word::Mark { element } => Payload::new(element),
-        Word::Origin { a, b } => signed_fields(a, b),
-        Word::Turn { quarters } => in_range(is_turn(quarters), quarters),
-        Word::Pen { a, b } => signed_fields(a, b),
-        Word::Line { a, b } => signed_fields(a, b),
+        Word::Element { parent, role } => element(*parent, *role),
+        Word::Mark { element } => Payload::new(*element),
+        Word::Origin { a, b } | Word::Pen { a, b } | Word::Line { a, b } | Word::Place { a, b } =>
+            signed_fields(*a, *b),
+        Word::Turn { quarters } => in_range(is_turn(*quarters), *quarters),
         Word::Paint { operator } => Some(Payload {
-            bits: u32::from(operator),
+            bits: u32::from(*operator),
         }),
-        Word::Text { size } => in_range(is_size(size), size),
-        Word::Place { a, b } => signed_fields(a, b),
-        Word::Show { codes } => show(codes),
+        Word::Text { size } => in_range(is_size(*size), *size),
+        Word::Show { codes } => show(*codes),
     }
 }
 
