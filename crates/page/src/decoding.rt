@@ -7,8 +7,7 @@ ghost use Rattle.std.specs.Option.{ok_or};
 ghost use Rattle.std.specs.Prelude.{◌≡◌, ◌^◌, nat_lt};
 
 use crate::fields::{
-    is_code, is_side, is_size, is_turn, kind_number, payload_bits, show_count, signed_a, signed_b,
-    unsigned_a, unsigned_b,
+    Fields, is_code, is_side, is_size, is_turn, kind_number, payload_bits, show_count,
 };
 use crate::types::{Codes, ElementType, Kind, PaintOperator, Refusal, Word};
 
@@ -28,12 +27,12 @@ pub fn decode(word: u32) -> Result<Word, Refusal>
 fn read(kind: Kind, word: u32) -> Result<Word, Refusal>
     ensures { result ≡ ok_or (word_of kind word) Refusal.Payload }
 {
-    let a = signed_a(word);
-    let b = signed_b(word);
+    let fields = Fields::of(word);
+    let (a, b) = fields.signed();
     match kind {
-        Kind::Page => page(unsigned_a(word), unsigned_b(word)),
+        Kind::Page => page(fields.a, fields.b),
         Kind::Close => bare(Word::Close, payload_bits(word)),
-        Kind::Element => element(unsigned_a(word), unsigned_b(word)),
+        Kind::Element => element(fields.a, fields.b),
         Kind::Mark => Ok(Word::Mark {
             element: payload_bits(word),
         }),

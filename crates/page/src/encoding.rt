@@ -5,7 +5,7 @@ ghost use Rattle.page.specs.Laws.{EncodeRefused, EncodeUndone};
 ghost use Rattle.page.specs.Numbers.{provided, word_kind};
 ghost use Rattle.std.specs.Prelude.{◌≡◌};
 
-use crate::fields::{Payload, is_code, is_side, is_size, is_turn, join, signed_bits};
+use crate::fields::{Fields, Payload, is_code, is_side, is_size, is_turn, join};
 use crate::types::{Codes, ElementType, Kind, Word};
 
 // The bits of a word, if each of its fields is in range.
@@ -29,7 +29,7 @@ fn payload(word: &Word) -> Option<Payload>
         Word::Element { parent, role } => element(*parent, *role),
         Word::Mark { element } => Payload::new(*element),
         Word::Origin { a, b } | Word::Pen { a, b } | Word::Line { a, b } | Word::Place { a, b } =>
-            signed_fields(*a, *b),
+            Fields::of_signed(*a, *b).map(Payload::of_fields),
         Word::Turn { quarters } => in_range(is_turn(*quarters), *quarters),
         Word::Paint { operator } => Some(Payload {
             bits: u32::from(*operator),
@@ -43,14 +43,14 @@ fn payload(word: &Word) -> Option<Payload>
 fn page(width: u16, height: u16) -> Option<Payload>
     ensures { with_payload Kind.Page result ≡ encoded (Word.Page width height) }
 {
-    (is_side(width) && is_side(height)).then(|| Payload::of_fields(width, height))
+    (is_side(width) && is_side(height)).then(|| Payload::of_fields(Fields::new(width, height)))
 }
 
 // The payload of an element.
 fn element(parent: u16, role: ElementType) -> Option<Payload>
     ensures { with_payload Kind.Element result ≡ encoded (Word.Element parent role) }
 {
-    (parent < 1 << 14).then(|| Payload::of_fields(parent, u16::from(role)))
+    (parent < 1 << 14).then(|| Payload::of_fields(Fields::new(parent, u16::from(role))))
 }
 
 // The payload of one number, provided that it is in its kind's range.
@@ -60,13 +60,6 @@ fn in_range(holds: bool, number: u8) -> Option<Payload>
     holds.then_some(Payload {
         bits: u32::from(number),
     })
-}
-
-// The payload of two signed fields.
-fn signed_fields(a: i32, b: i32) -> Option<Payload>
-    ensures { (kind : Kind) → with_payload kind result ≡ signed_fields kind a b }
-{
-    Some(Payload::of_fields(signed_bits(a)?, signed_bits(b)?))
 }
 
 // The payload of codes to show.

@@ -1,7 +1,8 @@
 // The fields of a word of 32 bits, read and put together, and the ranges that they are held to.
-ghost use Rattle.page.specs.Fields.{bits_of, fields, first_byte, is_code, is_side, is_signed, is_size, is_turn, joined, kind_of, payload_of, second_byte, show_count, shown, signed, signed_a, signed_b, third_byte, unsigned_a, unsigned_b};
+ghost use Rattle.page.specs.Fields.{bits_of, fields, first_byte, is_code, is_side, is_signed, is_size, is_turn, joined, kind_of, payload_of, second_byte, show_count, shown, signed, third_byte, unsigned_a, unsigned_b};
 ghost use Rattle.page.specs.Numbers.{provided};
-ghost use Rattle.std.specs.Prelude.{◌≡◌, ◌^◌, ◌<◌, IfSome, nat_lt};
+ghost use Rattle.std.specs.Option.{option_map};
+ghost use Rattle.std.specs.Prelude.{◌≡◌, ◌^◌, ◌<◌, ◌&&◌, IfSome, nat_lt};
 
 use crate::types::Kind;
 
@@ -31,18 +32,53 @@ pub(crate) fn payload_bits(word: u32) -> u32
     word % (1 << 28)
 }
 
-// Field a without a sign.
-pub(crate) fn unsigned_a(word: u32) -> u16
-    ensures { result ≡ unsigned_a word }
-{
-    ((word >> 14) % (1 << 14)) as u16
+// Two fields of fourteen bits.
+#[derive(Clone, Copy, PartialEq, Eq, Debug)]
+pub(crate) struct Fields {
+    pub(crate) a: u16,
+    pub(crate) b: u16,
+    ghost a_short: { a < 2 ^ 14 },
+    ghost b_short: { b < 2 ^ 14 },
 }
 
-// Field b without a sign.
-pub(crate) fn unsigned_b(word: u32) -> u16
-    ensures { result ≡ unsigned_b word }
-{
-    (word % (1 << 14)) as u16
+impl Fields {
+    // The two fields of a word.
+    pub(crate) fn of(word: u32) -> Fields
+        ensures a { result.a ≡ unsigned_a word }
+        ensures b { result.b ≡ unsigned_b word }
+    {
+        Fields {
+            a: ((word >> 14) % (1 << 14)) as u16,
+            b: (word % (1 << 14)) as u16,
+        }
+    }
+
+    // Two numbers as fields.
+    pub(crate) fn new(a: u16, b: u16) -> Fields
+        requires a_short { a < 2 ^ 14 }
+        requires b_short { b < 2 ^ 14 }
+        ensures a { result.a ≡ a }
+        ensures b { result.b ≡ b }
+    {
+        Fields { a, b }
+    }
+
+    // The fields with their signs.
+    pub(crate) fn signed(self) -> (i32, i32)
+        ensures { result ≡ (signed self.a, signed self.b) }
+    {
+        (with_sign(self.a), with_sign(self.b))
+    }
+
+    // The fields that stand for two numbers, if each holds its own.
+    pub(crate) fn of_signed(a: i32, b: i32) -> Option<Fields>
+        ensures { option_map (λ f. fields f.a f.b) result ≡ provided (is_signed a && is_signed b) (fields (bits_of a) (bits_of b)) }
+    {
+        Some(Fields {
+            a: signed_bits(a)?,
+            b: signed_bits(b)?,
+        })
+    }
 }
 
 // What fourteen bits stand for in two's complement.
@@ -50,21 +86,21 @@ fn with_sign(bits: u16) -> i32
     ensures { result ≡ signed bits }
 {
     let number = i32::from(bits);
-    if bits < 8192 { number } else { number - 16_384 }
+    if bits < 1 << 13 {
+        number
+    } else {
+        number - (1 << 14)
+    }
 }
 
-// Field a with its sign.
-pub(crate) fn signed_a(word: u32) -> i32
-    ensures { result ≡ signed_a word }
+// The fourteen bits of a number in two's complement, if they hold it.
+fn signed_bits(number: i32) -> Option<u16>
+    ensures value { result ≡ provided (is_signed number) (bits_of number) }
+    ensures short { IfSome result (λ bits. bits < 2 ^ 14) }
 {
-    with_sign(unsigned_a(word))
-}
-
-// Field b with its sign.
-pub(crate) fn signed_b(word: u32) -> i32
-    ensures { result ≡ signed_b word }
-{
-    with_sign(unsigned_b(word))
+    (-(1 << 13)..1 << 13)
+        .contains(&number)
+        .then(|| number.rem_euclid(1 << 14) as u16)
 }
 
 // How many codes a word shows.
@@ -88,22 +124,23 @@ impl Payload {
     pub(crate) fn new(bits: u32) -> Option<Payload>
         ensures { option_map (λ payload. payload.bits) result ≡ provided (nat_lt bits (2 ^ 28)) bits }
     {
-        // An `if`, since a closure for `then` would have to require the fact of the test again.
-        if bits < 1 << 28 {
-            Some(Payload { bits })
-        } else {
-            None
-        }
+        (bits < 1 << 28).then(|| Payload::of_bits(bits))
+    }
+
+    // Bits below the kind.
+    fn of_bits(bits: u32) -> Payload
+        requires { bits < 2 ^ 28 }
+        ensures { result.bits ≡ bits }
+    {
+        Payload { bits }
     }
 
     // Field a above field b.
-    pub(crate) fn of_fields(a: u16, b: u16) -> Payload
-        requires a_fits { a < 2 ^ 14 }
-        requires b_fits { b < 2 ^ 14 }
-        ensures { result.bits ≡ fields a b }
+    pub(crate) fn of_fields(pair: Fields) -> Payload
+        ensures { result.bits ≡ fields pair.a pair.b }
     {
         Payload {
-            bits: u32::from(a) * (1 << 14) + u32::from(b),
+            bits: u32::from(pair.a) * (1 << 14) + u32::from(pair.b),
         }
     }
 
@@ -123,18 +160,6 @@ pub(crate) fn join(kind: Kind, payload: Payload) -> u32
     ensures { result ≡ joined kind payload.bits }
 {
     u32::from(kind) * (1 << 28) + payload.bits
-}
-
-// The fourteen bits of a number in two's complement, if they hold it.
-pub(crate) fn signed_bits(number: i32) -> Option<u16>
-    ensures value { result ≡ provided (is_signed number) (bits_of number) }
-    ensures short { IfSome result (λ bits. bits < 2 ^ 14) }
-{
-    match number {
-        0..8192 => Some(number as u16),
-        -8192..0 => Some((number + 16_384) as u16),
-        _ => None,
-    }
 }
 
 // Whether a number is a page's width or height.
