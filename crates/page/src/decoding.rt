@@ -27,22 +27,32 @@ pub fn decode(word: u32) -> Result<Word, Refusal>
 fn read(kind: Kind, word: u32) -> Result<Word, Refusal>
     ensures { result ≡ ok_or (word_of kind word) Refusal.Payload }
 {
+    let payload = payload_bits(word);
     let fields = Fields::of(word);
     let (a, b) = fields.signed();
     match kind {
         Kind::Page => page(fields.a, fields.b),
-        Kind::Close => bare(Word::Close, payload_bits(word)),
-        Kind::Element => element(fields.a, fields.b),
-        Kind::Mark => Ok(Word::Mark {
-            element: payload_bits(word),
+        Kind::Close => in_range(payload == 0, Word::Close),
+        Kind::Element => Ok(Word::Element {
+            parent: fields.a,
+            role: ElementType::try_from(fields.b)?,
         }),
-        Kind::Save => bare(Word::Save, payload_bits(word)),
+        Kind::Mark => Ok(Word::Mark { element: payload }),
+        Kind::Save => in_range(payload == 0, Word::Save),
         Kind::Origin => Ok(Word::Origin { a, b }),
-        Kind::Turn => turn(payload_bits(word)),
+        Kind::Turn => {
+            let quarters = byte(payload)?;
+            in_range(is_turn(quarters), Word::Turn { quarters })
+        }
         Kind::Pen => Ok(Word::Pen { a, b }),
         Kind::Line => Ok(Word::Line { a, b }),
-        Kind::Paint => paint(payload_bits(word)),
-        Kind::Text => text(payload_bits(word)),
+        Kind::Paint => Ok(Word::Paint {
+            operator: PaintOperator::try_from(payload)?,
+        }),
+        Kind::Text => {
+            let size = byte(payload)?;
+            in_range(is_size(size), Word::Text { size })
+        }
         Kind::Place => Ok(Word::Place { a, b }),
         Kind::Show => show(word),
     }
@@ -70,45 +80,6 @@ fn page(width: u16, height: u16) -> Result<Word, Refusal>
         is_side(width) && is_side(height),
         Word::Page { width, height },
     )
-}
-
-// A word that has no payload.
-fn bare(word: Word, payload: u32) -> Result<Word, Refusal>
-    ensures { result ≡ ok_or (bare_of word payload) Refusal.Payload }
-{
-    in_range(payload == 0, word)
-}
-
-// An element, if there is such a type.
-fn element(parent: u16, number: u16) -> Result<Word, Refusal>
-    ensures { result ≡ ok_or (element_of parent (type_at number)) Refusal.Payload }
-{
-    let role = ElementType::try_from(number)?;
-    Ok(Word::Element { parent, role })
-}
-
-// A turn by quarters.
-fn turn(quarters: u32) -> Result<Word, Refusal>
-    ensures { result ≡ ok_or (turn_of quarters) Refusal.Payload }
-{
-    let quarters = byte(quarters)?;
-    in_range(is_turn(quarters), Word::Turn { quarters })
-}
-
-// A paint word, if there is such an operator.
-fn paint(number: u32) -> Result<Word, Refusal>
-    ensures { result ≡ ok_or (paint_of (operator_at number)) Refusal.Payload }
-{
-    let operator = PaintOperator::try_from(number)?;
-    Ok(Word::Paint { operator })
-}
-
-// Text of a size.
-fn text(size: u32) -> Result<Word, Refusal>
-    ensures { result ≡ ok_or (text_of size) Refusal.Payload }
-{
-    let size = byte(size)?;
-    in_range(is_size(size), Word::Text { size })
 }
 
 // A show word, if its bytes are codes.

@@ -9,6 +9,7 @@ use crate::fields::{Fields, Payload, is_code, is_side, is_size, is_turn, join};
 use crate::types::{Codes, ElementType, Kind, Word};
 
 // The bits of a word, if each of its fields is in range.
+// Not `TryFrom`: there is no error to name, and it stands beside `decode`, each with its named clauses.
 pub fn encode(word: Word) -> Option<u32>
     ensures value { result ≡ encoded word }
     ensures undone { EncodeUndone word result }
@@ -22,7 +23,7 @@ pub fn encode(word: Word) -> Option<u32>
 fn payload(word: &Word) -> Option<Payload>
     ensures { with_payload (word_kind word.now) result ≡ encoded word.now }
 {
-    // By reference: where the word itself is matched, the arm of four variants gets no proof.
+    // By reference: where the word itself is matched, or `*word`, the arm of four variants gets no proof.
     match word {
         Word::Page { width, height } => page(*width, *height),
         Word::Close | Word::Save => Some(Payload { bits: 0 }),
@@ -66,11 +67,12 @@ fn in_range(holds: bool, number: u8) -> Option<Payload>
 fn show(codes: Codes) -> Option<Payload>
     ensures { with_payload Kind.Show result ≡ encoded (Word.Show codes) }
 {
+    let count = codes.count();
     match codes {
-        Codes::One(x) if is_code(x) => Some(Payload::of_bytes(1, x, 0, 0)),
-        Codes::Two(x, y) if is_code(x) && is_code(y) => Some(Payload::of_bytes(2, x, y, 0)),
+        Codes::One(x) if is_code(x) => Some(Payload::of_bytes(count, x, 0, 0)),
+        Codes::Two(x, y) if is_code(x) && is_code(y) => Some(Payload::of_bytes(count, x, y, 0)),
         Codes::Three(x, y, z) if is_code(x) && is_code(y) && is_code(z) => {
-            Some(Payload::of_bytes(3, x, y, z))
+            Some(Payload::of_bytes(count, x, y, z))
         }
         _ => None,
     }

@@ -72,7 +72,7 @@ impl Fields {
 
     // The fields that stand for two numbers, if each holds its own.
     pub(crate) fn of_signed(a: i32, b: i32) -> Option<Fields>
-        ensures { option_map (λ f. fields f.a f.b) result ≡ provided (is_signed a && is_signed b) (fields (bits_of a) (bits_of b)) }
+        ensures { option_map (λ pair. fields pair.a pair.b) result ≡ provided (is_signed a && is_signed b) (fields (bits_of a) (bits_of b)) }
     {
         Some(Fields {
             a: signed_bits(a)?,
@@ -145,12 +145,12 @@ impl Payload {
     }
 
     // A count above three bytes.
-    pub(crate) fn of_bytes(count: u8, x: u8, y: u8, z: u8) -> Payload
+    pub(crate) fn of_bytes(count: u32, x: u8, y: u8, z: u8) -> Payload
         requires { count < 2 ^ 4 }
         ensures { result.bits ≡ shown count x y z }
     {
         Payload {
-            bits: u32::from_be_bytes([count, x, y, z]),
+            bits: count * (1 << 24) + u32::from_be_bytes([0, x, y, z]),
         }
     }
 }

@@ -1,11 +1,9 @@
-// The numbers, names and letters of kinds, types, operators, codes and refusals, also in print.
+// The numbers, names and letters of kinds, types, operators, codes and refusals.
 ghost use Rattle.page.specs.declared.types.Refusal.{Refusal};
 ghost use Rattle.page.specs.Numbers.{IsCaseAt, count_of, kind_at, kind_name, kind_number, letter_of, name_of, number_of, operator_at, operator_number, reason_of, type_at, type_number, word_kind};
 ghost use Rattle.std.specs.Prelude.{◌≡◌, Some, slice_get};
 
 use crate::types::{Codes, ElementType, Kind, PaintOperator, Refusal, Word};
-use std::error::Error;
-use std::fmt;
 
 impl TryFrom<u32> for Kind {
     type Error = Refusal;
@@ -39,28 +37,6 @@ impl From<Kind> for u32 {
     // The kind's number in a word.
     fn from(kind: Kind) -> u32 {
         kind as u32
-    }
-}
-
-impl fmt::Display for Kind {
-    ghost output = { λ kind. Some (kind_name kind) };
-
-    fn fmt<W: fmt::Write>(&self, f: &mut fmt::Formatter<W>) -> fmt::Result {
-        f.write_str(match self {
-            Kind::Page => "page",
-            Kind::Close => "close",
-            Kind::Element => "element",
-            Kind::Mark => "mark",
-            Kind::Save => "save",
-            Kind::Origin => "origin",
-            Kind::Turn => "turn",
-            Kind::Pen => "pen",
-            Kind::Line => "line",
-            Kind::Paint => "paint",
-            Kind::Text => "text",
-            Kind::Place => "place",
-            Kind::Show => "show",
-        })
     }
 }
 
@@ -140,14 +116,6 @@ impl ElementType {
     }
 }
 
-impl fmt::Display for ElementType {
-    ghost output = { λ role. Some (name_of role) };
-
-    fn fmt<W: fmt::Write>(&self, f: &mut fmt::Formatter<W>) -> fmt::Result {
-        f.write_str(self.name())
-    }
-}
-
 impl TryFrom<u32> for PaintOperator {
     type Error = Refusal;
 
@@ -209,16 +177,3 @@ impl From<Refusal> for u8 {
         refusal as u8
     }
 }
-
-impl fmt::Display for Refusal {
-    ghost output = { λ refusal. Some (reason_of refusal) };
-
-    fn fmt<W: fmt::Write>(&self, f: &mut fmt::Formatter<W>) -> fmt::Result {
-        f.write_str(match self {
-            Refusal::Kind => "no such kind",
-            Refusal::Payload => "payload outside its range",
-        })
-    }
-}
-
-impl Error for Refusal {}

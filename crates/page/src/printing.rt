@@ -1,9 +1,43 @@
-// What a word says, in plain terms.
+// What kinds, types, codes, words and refusals are in print.
+ghost use Rattle.page.specs.Numbers.{kind_name, name_of, reason_of};
 ghost use Rattle.page.specs.Printed.{codes_text, word_text};
 ghost use Rattle.std.specs.Prelude.{Some};
 
-use crate::types::{Codes, Word};
+use crate::types::{Codes, ElementType, Kind, Refusal, Word};
+use std::error::Error;
 use std::fmt;
+
+// A kind by its name in plain words.
+impl fmt::Display for Kind {
+    ghost output = { λ kind. Some (kind_name kind) };
+
+    fn fmt<W: fmt::Write>(&self, f: &mut fmt::Formatter<W>) -> fmt::Result {
+        f.write_str(match self {
+            Kind::Page => "page",
+            Kind::Close => "close",
+            Kind::Element => "element",
+            Kind::Mark => "mark",
+            Kind::Save => "save",
+            Kind::Origin => "origin",
+            Kind::Turn => "turn",
+            Kind::Pen => "pen",
+            Kind::Line => "line",
+            Kind::Paint => "paint",
+            Kind::Text => "text",
+            Kind::Place => "place",
+            Kind::Show => "show",
+        })
+    }
+}
+
+// A type by its name in a file.
+impl fmt::Display for ElementType {
+    ghost output = { λ role. Some (name_of role) };
+
+    fn fmt<W: fmt::Write>(&self, f: &mut fmt::Formatter<W>) -> fmt::Result {
+        f.write_str(self.name())
+    }
+}
 
 // The codes as text.
 impl fmt::Display for Codes {
@@ -41,3 +75,17 @@ impl fmt::Display for Word {
         }
     }
 }
+
+// Why a word is refused.
+impl fmt::Display for Refusal {
+    ghost output = { λ refusal. Some (reason_of refusal) };
+
+    fn fmt<W: fmt::Write>(&self, f: &mut fmt::Formatter<W>) -> fmt::Result {
+        f.write_str(match self {
+            Refusal::Kind => "no such kind",
+            Refusal::Payload => "payload outside its range",
+        })
+    }
+}
+
+impl Error for Refusal {}

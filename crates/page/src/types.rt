@@ -77,6 +77,7 @@ pub enum Word {
     // Closes what was opened last.
     Close,
     // Adds an element as the last kid of the element `parent`; 0 is the root of the tree.
+    // In the format 0 is one of the values of this field and of a mark's, so neither is an Option.
     Element { parent: u16, role: ElementType },
     // Opens a mark: what is drawn in it belongs to this element; 0 makes it an artifact.
     Mark { element: u32 },
