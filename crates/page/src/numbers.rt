@@ -12,22 +12,7 @@ impl TryFrom<u32> for Kind {
 
     // The kind of this number.
     fn try_from(number: u32) -> Result<Kind, Refusal> {
-        match number {
-            0 => Ok(Kind::Page),
-            1 => Ok(Kind::Close),
-            2 => Ok(Kind::Element),
-            3 => Ok(Kind::Mark),
-            4 => Ok(Kind::Save),
-            5 => Ok(Kind::Origin),
-            6 => Ok(Kind::Turn),
-            7 => Ok(Kind::Pen),
-            8 => Ok(Kind::Line),
-            9 => Ok(Kind::Paint),
-            10 => Ok(Kind::Text),
-            11 => Ok(Kind::Place),
-            12 => Ok(Kind::Show),
-            _ => Err(Refusal::Kind),
-        }
+        Kind::ALL.get(number as usize).copied().ok_or(Refusal::Kind)
     }
 }
 
@@ -69,7 +54,7 @@ impl TryFrom<u16> for ElementType {
 
     ghost try_from_gives = { IsCaseAt type_at type_number Refusal.Payload };
 
-    // The type of this number.
+    // The type of this number. A table, since no other place lists all types, as one lists all kinds.
     fn try_from(number: u16) -> Result<ElementType, Refusal> {
         match number {
             0 => Ok(ElementType::Document),
