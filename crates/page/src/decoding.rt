@@ -1,8 +1,8 @@
 // From 32 bits to a word.
-ghost use Rattle.page.specs.Decoded.{bare_of, codes_of, decoded, element_of, page_of, paint_of, show_of, text_of, turn_of, word_of};
+ghost use Rattle.page.specs.Decoded.{codes_of, decoded, page_of, show_of, word_of};
 ghost use Rattle.page.specs.Fields.{first_byte, second_byte, show_count, third_byte};
 ghost use Rattle.page.specs.Laws.{DecodeUndone, KindRead, Refusals};
-ghost use Rattle.page.specs.Numbers.{operator_at, provided, type_at};
+ghost use Rattle.page.specs.Numbers.{provided};
 ghost use Rattle.std.specs.Option.{ok_or};
 ghost use Rattle.std.specs.Prelude.{◌≡◌, ◌^◌, nat_lt};
 

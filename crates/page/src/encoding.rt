@@ -1,5 +1,5 @@
 // From a word to its 32 bits.
-ghost use Rattle.page.specs.Encoded.{encoded, signed_fields, with_payload};
+ghost use Rattle.page.specs.Encoded.{encoded, with_payload};
 ghost use Rattle.page.specs.Fields.{joined};
 ghost use Rattle.page.specs.Laws.{EncodeRefused, EncodeUndone};
 ghost use Rattle.page.specs.Numbers.{provided, word_kind};

@@ -118,8 +118,6 @@ pub(crate) struct Payload {
 }
 
 impl Payload {
-    ghost use Rattle.std.specs.Option.{option_map};
-
     // The payload of these bits, unless they reach into the kind.
     pub(crate) fn new(bits: u32) -> Option<Payload>
         ensures { option_map (λ payload. payload.bits) result ≡ provided (nat_lt bits (2 ^ 28)) bits }

@@ -1,6 +1,6 @@
 // The numbers, names and letters of kinds, types, operators, codes and refusals.
 ghost use Rattle.page.specs.declared.types.Refusal.{Refusal};
-ghost use Rattle.page.specs.Numbers.{IsCaseAt, count_of, kind_at, kind_name, kind_number, letter_of, name_of, number_of, operator_at, operator_number, reason_of, type_at, type_number, word_kind};
+ghost use Rattle.page.specs.Numbers.{IsCaseAt, count_of, kind_at, kind_number, letter_of, name_of, number_of, operator_at, operator_number, type_at, type_number, word_kind};
 ghost use Rattle.std.specs.Prelude.{◌≡◌, Some, slice_get};
 
 use crate::types::{Codes, ElementType, Kind, PaintOperator, Refusal, Word};
