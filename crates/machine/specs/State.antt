@@ -232,6 +232,10 @@ draws s (step.Show codes) = glyphs_at s.numbers (codes_in codes)
 abbrev pub state_of : List Open → Numbers → State
 state_of stack n = record { stack = stack; numbers = n }
 
+-- Where the answer is yes, the numbers are changed so; else they are as they were.
+abbrev pub IfTaken : Bool → (Numbers → Numbers) → Numbers → Numbers → Type 0
+IfTaken answer change before after = after ≡ cond answer (change before) before
+
 -- Where the answer is yes, the numbers are as the step makes them, whatever is open; else they are as they were.
 abbrev pub Does : Step → Bool → Numbers → Numbers → Type 0
-Does step answer before after = (stack : List Open) → after ≡ cond answer (did (state_of stack before) step).numbers before
+Does step answer before after = (stack : List Open) → IfTaken answer (λ n. (did (state_of stack n) step).numbers) before after

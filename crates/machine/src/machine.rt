@@ -3,7 +3,7 @@ ghost use Rattle.std.specs.Prelude.{◌≡◌, ◌*◌, ◌≤◌, true, is_ok, 
 ghost use Rattle.machine.specs.Axes.{axes_inside, shifted};
 ghost use Rattle.machine.specs.Laws.{EvenlySpaced, Multiplied, shift_by, turn_by};
 ghost use Rattle.machine.specs.Refusals.{allowed};
-ghost use Rattle.machine.specs.State.{Does, can_draw, glyph_at, glyph_set, line_inside, most_marks, most_pages, no_numbers, one_drawn, placed, point_at, with_axes};
+ghost use Rattle.machine.specs.State.{Does, IfTaken, can_draw, glyph_at, glyph_set, line_inside, most_drawn, most_marks, most_pages, no_numbers, one_drawn, placed, point_at, with_axes};
 ghost use Rattle.machine.specs.declared.refusals.Refusal.TheVariants.{Limit, Outside};
 
 use crate::drawing::{glyph_at, point_at};
@@ -22,11 +22,11 @@ const MOST_MARKS: u32 = 1024;
 // The most glyphs and points.
 const MOST_DRAWN: u32 = 2048;
 
-// The machine. Its counts keep their limit, and no glyph is wider than 6 × 255 tenths, so the advance does not overflow.
+// The machine. Its count of glyphs and points keeps its limit, and no glyph is wider than 6 × 255 tenths, so the advance does not overflow.
 #[derive(Clone, Copy, PartialEq, Eq, Debug)]
 pub struct Machine {
     numbers: Numbers,
-    ghost counted: { numbers.counts.drawn ≤ 2048 },
+    ghost counted: { numbers.counts.drawn ≤ most_drawn },
     ghost advances: { numbers.line.advance ≤ 1530 * numbers.counts.drawn },
 }
 
@@ -44,8 +44,7 @@ impl Machine {
     pub fn axes(&self) -> Axes
         ensures { result ≡ self.now.numbers.axes }
     {
-        let found = self.numbers.axes;
-        found
+        self.numbers.axes
     }
 
     // Brings back axes that a save found.
@@ -117,7 +116,7 @@ impl Machine {
     // Sets one glyph and advances, if there is one left.
     pub fn glyph(&mut self, code: u8) -> Result<Drawn, Refusal>
         ensures answer { result ≡ allowed (can_draw self.old.numbers) Limit (glyph_at self.old.numbers code) }
-        ensures after { self.new.numbers ≡ (if is_ok result then glyph_set self.old.numbers else self.old.numbers) }
+        ensures after { IfTaken (is_ok result) glyph_set self.old.numbers self.new.numbers }
     {
         self.count_drawn()?;
         let drawn = glyph_at(self.numbers, code);
@@ -126,6 +125,7 @@ impl Machine {
     }
 
     // Sets the point that a path goes on from, if there is one left.
+    // This and `line_to` differ in a constant: the format has two steps, and `point` does both.
     pub fn pen_to(&mut self, a: i32, b: i32) -> Result<Drawn, Refusal>
         ensures answer { result ≡ allowed (can_draw self.old.numbers) Limit (point_at Letter.Move self.old.numbers.axes a b) }
         ensures after { Does (Step.Pen a b) (is_ok result) self.old.numbers self.new.numbers }
@@ -144,7 +144,7 @@ impl Machine {
     // Sets a point of a path, if there is one left.
     fn point(&mut self, shape: Letter, a: i32, b: i32) -> Result<Drawn, Refusal>
         ensures answer { result ≡ allowed (can_draw self.old.numbers) Limit (point_at shape self.old.numbers.axes a b) }
-        ensures after { self.new.numbers ≡ (if is_ok result then one_drawn self.old.numbers else self.old.numbers) }
+        ensures after { IfTaken (is_ok result) one_drawn self.old.numbers self.new.numbers }
     {
         self.count_drawn()?;
         Ok(point_at(self.numbers.axes, shape, a, b))
@@ -153,7 +153,7 @@ impl Machine {
     // Counts one glyph or point more, if there is one left.
     fn count_drawn(&mut self) -> Result<(), Refusal>
         ensures answer { result ≡ allowed (can_draw self.old.numbers) Limit tt }
-        ensures after { self.new.numbers ≡ (if is_ok result then one_drawn self.old.numbers else self.old.numbers) }
+        ensures after { IfTaken (is_ok result) one_drawn self.old.numbers self.new.numbers }
     {
         self.numbers.counts.drawn = one_more(self.numbers.counts.drawn, MOST_DRAWN)?;
         Ok(())

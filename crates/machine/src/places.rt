@@ -73,14 +73,16 @@ impl Place {
     }
 }
 
+// How far from 0 an offset and the start of a line of text may be, in points.
+const FARTHEST: i32 = 14_400;
+
 // A number, if it is within ±14,400.
 fn narrow(z: i64) -> Result<i32, Refusal>
     ensures { result ≡ allowed (within z) Outside z }
 {
-    if -14_400 <= z && z <= 14_400 {
-        Ok(z as i32)
-    } else {
-        Err(Refusal::Outside)
+    match i32::try_from(z) {
+        Ok(z) if (-FARTHEST..=FARTHEST).contains(&z) => Ok(z),
+        _ => Err(Refusal::Outside),
     }
 }
 

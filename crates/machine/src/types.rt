@@ -23,7 +23,8 @@ pub enum Open {
 
 // A step of the machine. Lengths and places are in points.
 // No word: it has no size of a page, no element, and of a mark only whether it is owned. What a file does is told in steps too.
-// A place stays two numbers here and in calls: a word holds it so, and a struct would be made and taken apart at each.
+// A place stays two numbers here and in calls: the definitions and laws speak of two (`Step.Origin a b`, `shifted axes a b`),
+// as a word does, and a struct would be taken apart at every one.
 #[derive(Clone, Copy, PartialEq, Eq, Debug)]
 pub enum Step {
     Page,

@@ -1,7 +1,7 @@
 // Whether a step keeps the machine's limits and ranges.
 ghost use Rattle.machine.specs.Refusals.{allowed};
-ghost use Rattle.machine.specs.State.{inside_range, state_of, within_limits};
-ghost use Rattle.machine.specs.declared.types.Open.{Open as Thing};
+ghost use Rattle.machine.specs.State.{inside_range, most_drawn, state_of, within_limits};
+ghost use Rattle.machine.specs.declared.types.Open.{Open};
 ghost use Rattle.machine.specs.declared.refusals.Refusal.TheVariants.{Limit};
 ghost use Rattle.std.specs.Prelude.{◌≡◌, ◌+◌, List, nat_le, nat_lt};
 
@@ -28,10 +28,10 @@ impl Machine {
     {
         let counts = self.numbers.counts;
         match step {
-            Step::Page => one_more(counts.pages, MOST_PAGES).is_ok(),
-            Step::Mark { owned } => !owned || one_more(counts.marks, MOST_MARKS).is_ok(),
+            Step::Page => counts.pages < MOST_PAGES,
+            Step::Mark { owned } => !owned || counts.marks < MOST_MARKS,
             Step::Save => stack.saves() < most,
-            Step::Pen { .. } | Step::Line { .. } => one_more(counts.drawn, MOST_DRAWN).is_ok(),
+            Step::Pen { .. } | Step::Line { .. } => self.has_room(1),
             Step::Show { codes } => self.has_room(codes.count()),
             _ => true,
         }
@@ -39,14 +39,14 @@ impl Machine {
 
     // Whether so many glyphs more keep the limit.
     fn has_room(&self, more: u32) -> bool
-        ensures { result ≡ nat_le (self.now.numbers.counts.drawn + more) 2048 }
+        ensures { result ≡ nat_le (self.now.numbers.counts.drawn + more) most_drawn }
     {
         more <= MOST_DRAWN - self.numbers.counts.drawn
     }
 
     // Whether a step leaves the offset and the start of the line of text within their range.
     pub fn inside_range(&self, step: Step) -> bool
-        ensures { (stack : List Thing) → result ≡ inside_range (state_of stack self.now.numbers) step }
+        ensures { (stack : List Open) → result ≡ inside_range (state_of stack self.now.numbers) step }
     {
         match step {
             Step::Origin { a, b } => self.numbers.axes.shifted(a, b).is_ok(),
