@@ -3,13 +3,15 @@ ghost use Rattle.std.specs.Prelude.{◌≡◌, ◌*◌, ◌≤◌, true, is_ok, 
 ghost use Rattle.machine.specs.Axes.{axes_inside, shifted};
 ghost use Rattle.machine.specs.Laws.{EvenlySpaced, Multiplied, shift_by, turn_by};
 ghost use Rattle.machine.specs.Refusals.{allowed};
-ghost use Rattle.machine.specs.State.{Does, IfTaken, can_draw, glyph_at, glyph_set, line_inside, most_drawn, most_marks, most_pages, no_numbers, one_drawn, placed, point_at, with_axes};
+ghost use Rattle.machine.specs.State.{Does, IfTaken, Kept, can_draw, glyph_at, glyph_set, line_inside, most_marks, most_pages, no_numbers, one_drawn, placed, point_at, with_axes};
+ghost use Rattle.machine.specs.declared.types.Numbers.{Numbers};
 ghost use Rattle.machine.specs.declared.refusals.Refusal.TheVariants.{Limit, Outside};
 
 use crate::drawing::{glyph_at, point_at};
 use crate::refusals::Refusal;
 use crate::types::{Axes, Counts, Drawn, Letter, Numbers, Step, TextLine};
 use limits::one_more;
+use std::marker::Model;
 
 mod limits;
 
@@ -22,18 +24,27 @@ const MOST_MARKS: u32 = 1024;
 // The most glyphs and points.
 const MOST_DRAWN: u32 = 2048;
 
-// The machine. Its count of glyphs and points keeps its limit, and no glyph is wider than 6 × 255 tenths, so the advance does not overflow.
+// The machine.
 #[derive(Clone, Copy, PartialEq, Eq, Debug)]
 pub struct Machine {
     numbers: Numbers,
-    ghost counted: { numbers.counts.drawn ≤ most_drawn },
-    ghost advances: { numbers.line.advance ≤ 1530 * numbers.counts.drawn },
+}
+
+// A contract sees a machine as its numbers.
+impl Model for Machine {
+    ghost Value = { Numbers };
+
+    ghost view = { λ machine. machine.numbers };
+
+    ghost invariant = { λ machine. Kept machine.numbers };
+
+    ghost inverse = { λ numbers. record { numbers = numbers } };
 }
 
 impl Machine {
     // A machine before its first page.
     pub fn new() -> Machine
-        ensures { result.numbers ≡ no_numbers }
+        ensures { result ≡ no_numbers }
     {
         Machine {
             numbers: Numbers::default(),
@@ -42,22 +53,22 @@ impl Machine {
 
     // The axes, as a save finds them.
     pub fn axes(&self) -> Axes
-        ensures { result ≡ self.now.numbers.axes }
+        ensures { result ≡ self.now.axes }
     {
         self.numbers.axes
     }
 
     // Brings back axes that a save found.
     pub fn restore(&mut self, axes: Axes)
-        ensures { self.new.numbers ≡ with_axes self.old.numbers axes }
+        ensures { self.new ≡ with_axes self.old axes }
     {
         self.numbers.axes = axes;
     }
 
     // Starts a page, if there is one left.
     pub fn start_page(&mut self) -> Result<(), Refusal>
-        ensures answer { result ≡ allowed (nat_lt self.old.numbers.counts.pages most_pages) Limit tt }
-        ensures after { Does Step.Page (is_ok result) self.old.numbers self.new.numbers }
+        ensures answer { result ≡ allowed (nat_lt self.old.counts.pages most_pages) Limit tt }
+        ensures after { Does Step.Page (is_ok result) self.old self.new }
     {
         self.numbers.counts.pages = one_more(self.numbers.counts.pages, MOST_PAGES)?;
         self.numbers.axes = Axes::default();
@@ -66,8 +77,8 @@ impl Machine {
 
     // Starts a mark, if it is an artifact or there is one left.
     pub fn start_mark(&mut self, owned: bool) -> Result<(), Refusal>
-        ensures answer { result ≡ allowed (if owned then nat_lt self.old.numbers.counts.marks most_marks else true) Limit tt }
-        ensures after { Does (Step.Mark owned) (is_ok result) self.old.numbers self.new.numbers }
+        ensures answer { result ≡ allowed (if owned then nat_lt self.old.counts.marks most_marks else true) Limit tt }
+        ensures after { Does (Step.Mark owned) (is_ok result) self.old self.new }
     {
         if owned {
             self.numbers.counts.marks = one_more(self.numbers.counts.marks, MOST_MARKS)?;
@@ -77,9 +88,9 @@ impl Machine {
 
     // Moves the origin, if the offset is then within its range.
     pub fn shift(&mut self, a: i32, b: i32) -> Result<(), Refusal>
-        ensures answer { result ≡ allowed (axes_inside (shifted self.old.numbers.axes a b)) Outside tt }
-        ensures after { Does (Step.Origin a b) (is_ok result) self.old.numbers self.new.numbers }
-        ensures matrix { OnOk result (Multiplied (shift_by a b) self.old.numbers.axes self.new.numbers.axes) }
+        ensures answer { result ≡ allowed (axes_inside (shifted self.old.axes a b)) Outside tt }
+        ensures after { Does (Step.Origin a b) (is_ok result) self.old self.new }
+        ensures matrix { OnOk result (Multiplied (shift_by a b) self.old.axes self.new.axes) }
     {
         self.numbers.axes = self.numbers.axes.shifted(a, b)?;
         Ok(())
@@ -87,16 +98,16 @@ impl Machine {
 
     // Turns the axes by quarters of a whole turn.
     pub fn turn_by(&mut self, quarters: u8)
-        ensures after { Does (Step.Turn quarters) true self.old.numbers self.new.numbers }
-        ensures matrix { Multiplied (turn_by quarters) self.old.numbers.axes self.new.numbers.axes }
+        ensures after { Does (Step.Turn quarters) true self.old self.new }
+        ensures matrix { Multiplied (turn_by quarters) self.old.axes self.new.axes }
     {
         self.numbers.axes.turn = (self.numbers.axes.turn % 4 + quarters % 4) % 4;
     }
 
     // Starts text of this size.
     pub fn start_text(&mut self, size: u8)
-        ensures after { Does (Step.Text size) true self.old.numbers self.new.numbers }
-        ensures spaced { EvenlySpaced size self.new.numbers }
+        ensures after { Does (Step.Text size) true self.old self.new }
+        ensures spaced { EvenlySpaced size self.new }
     {
         self.numbers.line = TextLine {
             size,
@@ -106,8 +117,8 @@ impl Machine {
 
     // Moves the start of the line of text, if it is then within its range.
     pub fn place(&mut self, a: i32, b: i32) -> Result<(), Refusal>
-        ensures answer { result ≡ allowed (line_inside (placed self.old.numbers.line a b)) Outside tt }
-        ensures after { Does (Step.Place a b) (is_ok result) self.old.numbers self.new.numbers }
+        ensures answer { result ≡ allowed (line_inside (placed self.old.line a b)) Outside tt }
+        ensures after { Does (Step.Place a b) (is_ok result) self.old self.new }
     {
         self.numbers.line = self.numbers.line.placed(a, b)?;
         Ok(())
@@ -115,11 +126,11 @@ impl Machine {
 
     // Sets one glyph and advances, if there is one left.
     pub fn glyph(&mut self, code: u8) -> Result<Drawn, Refusal>
-        ensures answer { result ≡ allowed (can_draw self.old.numbers) Limit (glyph_at self.old.numbers code) }
-        ensures after { IfTaken (is_ok result) glyph_set self.old.numbers self.new.numbers }
+        ensures answer { result ≡ allowed (can_draw self.old) Limit (glyph_at self.old code) }
+        ensures after { IfTaken (is_ok result) glyph_set self.old self.new }
     {
-        self.count_drawn()?;
         let drawn = glyph_at(self.numbers, code);
+        self.count_drawn()?;
         self.numbers.line.advance += 6 * u32::from(self.numbers.line.size);
         Ok(drawn)
     }
@@ -127,24 +138,24 @@ impl Machine {
     // Sets the point that a path goes on from, if there is one left.
     // This and `line_to` differ in a constant: the format has two steps, and `point` does both.
     pub fn pen_to(&mut self, a: i32, b: i32) -> Result<Drawn, Refusal>
-        ensures answer { result ≡ allowed (can_draw self.old.numbers) Limit (point_at Letter.Move self.old.numbers.axes a b) }
-        ensures after { Does (Step.Pen a b) (is_ok result) self.old.numbers self.new.numbers }
+        ensures answer { result ≡ allowed (can_draw self.old) Limit (point_at Letter.Move self.old.axes a b) }
+        ensures after { Does (Step.Pen a b) (is_ok result) self.old self.new }
     {
         self.point(Letter::Move, a, b)
     }
 
     // Sets the point that a line goes to, if there is one left.
     pub fn line_to(&mut self, a: i32, b: i32) -> Result<Drawn, Refusal>
-        ensures answer { result ≡ allowed (can_draw self.old.numbers) Limit (point_at Letter.Line self.old.numbers.axes a b) }
-        ensures after { Does (Step.Line a b) (is_ok result) self.old.numbers self.new.numbers }
+        ensures answer { result ≡ allowed (can_draw self.old) Limit (point_at Letter.Line self.old.axes a b) }
+        ensures after { Does (Step.Line a b) (is_ok result) self.old self.new }
     {
         self.point(Letter::Line, a, b)
     }
 
     // Sets a point of a path, if there is one left.
     fn point(&mut self, shape: Letter, a: i32, b: i32) -> Result<Drawn, Refusal>
-        ensures answer { result ≡ allowed (can_draw self.old.numbers) Limit (point_at shape self.old.numbers.axes a b) }
-        ensures after { IfTaken (is_ok result) one_drawn self.old.numbers self.new.numbers }
+        ensures answer { result ≡ allowed (can_draw self.old) Limit (point_at shape self.old.axes a b) }
+        ensures after { IfTaken (is_ok result) one_drawn self.old self.new }
     {
         self.count_drawn()?;
         Ok(point_at(self.numbers.axes, shape, a, b))
@@ -152,8 +163,8 @@ impl Machine {
 
     // Counts one glyph or point more, if there is one left.
     fn count_drawn(&mut self) -> Result<(), Refusal>
-        ensures answer { result ≡ allowed (can_draw self.old.numbers) Limit tt }
-        ensures after { IfTaken (is_ok result) one_drawn self.old.numbers self.new.numbers }
+        ensures answer { result ≡ allowed (can_draw self.old) Limit tt }
+        ensures after { IfTaken (is_ok result) one_drawn self.old self.new }
     {
         self.numbers.counts.drawn = one_more(self.numbers.counts.drawn, MOST_DRAWN)?;
         Ok(())
