@@ -153,7 +153,7 @@ within_limits saves s (step.Place a b) = true
 within_limits saves s (step.Show codes) = nat_le (s.numbers.counts.drawn + count_of codes) most_drawn
 
 -- The count of glyphs and points keeps its limit, and no glyph is wider than 6 × 255 tenths, so the advance does not overflow.
-pub record Kept (n : Numbers) : Type 0 where
+pub record Bounded (n : Numbers) : Type 0 where
   pub counted : n.counts.drawn ≤ most_drawn
   pub advances : n.line.advance ≤ 1530 * n.counts.drawn
 

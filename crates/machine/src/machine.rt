@@ -1,15 +1,15 @@
 // The machine: its numbers, and the methods that change them.
-ghost use Rattle.std.specs.Prelude.{◌≡◌, ◌*◌, ◌≤◌, true, is_ok, OnOk, if◌then◌else◌, nat_lt};
+ghost use Rattle.std.specs.Prelude.{◌≡◌, true, is_ok, OnOk, if◌then◌else◌, nat_lt};
 ghost use Rattle.machine.specs.Axes.{axes_inside, shifted};
 ghost use Rattle.machine.specs.Laws.{EvenlySpaced, Multiplied, shift_by, turn_by};
 ghost use Rattle.machine.specs.Refusals.{allowed};
-ghost use Rattle.machine.specs.State.{Does, IfTaken, Kept, can_draw, glyph_at, glyph_set, line_inside, most_marks, most_pages, no_numbers, one_drawn, placed, point_at, with_axes};
+ghost use Rattle.machine.specs.State.{Bounded, Does, IfTaken, can_draw, glyph_at, glyph_set, line_inside, most_marks, most_pages, no_numbers, one_drawn, placed, point_at, with_axes};
 ghost use Rattle.machine.specs.declared.types.Numbers.{Numbers};
 ghost use Rattle.machine.specs.declared.refusals.Refusal.TheVariants.{Limit, Outside};
 
 use crate::drawing::{glyph_at, point_at};
 use crate::refusals::Refusal;
-use crate::types::{Axes, Counts, Drawn, Letter, Numbers, Step, TextLine};
+use crate::types::{Axes, Drawn, Letter, Numbers, Step, TextLine};
 use limits::one_more;
 use std::marker::Model;
 
@@ -24,8 +24,8 @@ const MOST_MARKS: u32 = 1024;
 // The most glyphs and points.
 const MOST_DRAWN: u32 = 2048;
 
-// The machine.
-#[derive(Clone, Copy, PartialEq, Eq, Debug)]
+// The machine. Its numbers are bounded, so that the advance does not overflow.
+#[derive(Clone, Copy, PartialEq, Eq, Debug, Default)]
 pub struct Machine {
     numbers: Numbers,
 }
@@ -36,7 +36,7 @@ impl Model for Machine {
 
     ghost view = { λ machine. machine.numbers };
 
-    ghost invariant = { λ machine. Kept machine.numbers };
+    ghost invariant = { λ machine. Bounded machine.numbers };
 
     ghost inverse = { λ numbers. record { numbers = numbers } };
 }
@@ -46,9 +46,7 @@ impl Machine {
     pub fn new() -> Machine
         ensures { result ≡ no_numbers }
     {
-        Machine {
-            numbers: Numbers::default(),
-        }
+        Machine::default()
     }
 
     // The axes, as a save finds them.

@@ -37,7 +37,7 @@ impl Machine {
         }
     }
 
-    // Whether so many glyphs more keep the limit.
+    // Whether so many glyphs or points more keep the limit.
     fn has_room(&self, more: u32) -> bool
         ensures { result ≡ nat_le (self.now.counts.drawn + more) most_drawn }
     {
