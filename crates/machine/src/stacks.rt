@@ -1,6 +1,6 @@
 // What is open, and which step is taken where.
 ghost use Rattle.machine.specs.Stack.{Tells, is_mark, is_page, is_path, is_text, level_in, mark_in, path_in, saves_in, some_open, taken, text_in};
-ghost use Rattle.machine.specs.declared.types.Open.{Open as OpenThing};
+ghost use Rattle.machine.specs.declared.types.Open.{Open};
 ghost use Rattle.std.specs.Prelude.{◌≡◌, Bool, true, ◌&&◌, ◌||◌, reverse};
 
 use crate::types::{Open, Step};
@@ -91,7 +91,7 @@ impl<'a> Stack<'a> {
     // Whether one of the things passes a test.
     fn has<F: Fn(&Open) -> bool>(&self, test: F) -> bool
         requires { F.IsAlwaysCallable test }
-        ensures { (passes : OpenThing → Bool) → Tells F.Fn test passes → result ≡ some_open passes self.now }
+        ensures { (passes : Open → Bool) → Tells F.Fn test passes → result ≡ some_open passes self.now }
     {
         self.things.iter().any(test)
     }
