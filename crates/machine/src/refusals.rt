@@ -5,7 +5,8 @@ ghost use Rattle.std.specs.Prelude.{Some};
 use std::error::Error;
 use std::fmt;
 
-// There are as many as the limit allows, or a place would be outside its range.
+// There are as many as the limit allows, or a place would be outside its range. Whoever runs the machine answers with a
+// refusal of its own, so the cases have no numbers.
 #[derive(Clone, Copy, PartialEq, Eq, Debug)]
 pub enum Refusal {
     Limit,

@@ -77,8 +77,8 @@ pub enum Letter {
 }
 
 // A drawn thing. Its place is in tenths of a point.
-// Every letter has all the fields, and a paint's operator is a number: they are those of an item, the record of a tray
-// that the caller of the library lends and reads.
+// Every letter has all the fields, and a paint's operator is a number: they are those of an item, the record that the
+// outputs fix.
 #[derive(Clone, Copy, PartialEq, Eq, Debug)]
 pub struct Drawn {
     pub letter: Letter,
