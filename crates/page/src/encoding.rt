@@ -9,7 +9,7 @@ use crate::fields::{Fields, Payload, is_code, is_side, is_size, is_turn, join};
 use crate::types::{Codes, ElementType, Kind, Word};
 
 // The bits of a word, if each of its fields is in range.
-// Not `TryFrom`: there is no error to name, and it stands beside `decode`, each with its named clauses.
+// Not `TryFrom`: it has no error to name, and stands beside `decode`, each with named clauses.
 pub fn encode(word: Word) -> Option<u32>
     ensures value { result ≡ encoded word }
     ensures undone { EncodeUndone word result }
@@ -23,7 +23,7 @@ pub fn encode(word: Word) -> Option<u32>
 fn payload(word: &Word) -> Option<Payload>
     ensures { with_payload (word_kind word.now) result ≡ encoded word.now }
 {
-    // By reference: where the word itself is matched, or `*word`, the arm of four variants gets no proof.
+    // By reference: matched as a value, or as `*word`, the arm of four variants gets no proof.
     match word {
         Word::Page { width, height } => page(*width, *height),
         Word::Close | Word::Save => Some(Payload { bits: 0 }),

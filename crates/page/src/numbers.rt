@@ -54,7 +54,7 @@ impl TryFrom<u16> for ElementType {
 
     ghost try_from_gives = { IsCaseAt type_at type_number Refusal.Payload };
 
-    // The type of this number. A table, since no other place lists all types, as one lists all kinds.
+    // The type of this number. Unlike the kinds, the types stand in no list that could be read.
     fn try_from(number: u16) -> Result<ElementType, Refusal> {
         match number {
             0 => Ok(ElementType::Document),
@@ -106,7 +106,7 @@ impl TryFrom<u32> for PaintOperator {
 
     ghost try_from_gives = { IsCaseAt operator_at operator_number Refusal.Payload };
 
-    // The operator of this number.
+    // The operator of this number. As the types, the operators stand in no list.
     fn try_from(number: u32) -> Result<PaintOperator, Refusal> {
         match number {
             0 => Ok(PaintOperator::Stroke),
