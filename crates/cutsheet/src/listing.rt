@@ -11,7 +11,7 @@ pub(crate) fn words_of(heap: Global, text: &[u8]) -> anyhow::Result<Vec<u32>> {
     Ok(words)
 }
 
-// Prints a line for each word, and then how many there are of each kind.
+// Prints a line for each word, and then how many there are of each kind. No bound on the counts is known here, so they saturate.
 pub(crate) fn print(rt: &HostRuntime, words: &[u32]) -> anyhow::Result<()> {
     let mut counts: BTreeMap<Kind, usize> = BTreeMap::new(rt.alloc());
     let mut refused = 0usize;

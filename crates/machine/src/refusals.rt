@@ -18,8 +18,8 @@ impl fmt::Display for Refusal {
 
     fn fmt<W: fmt::Write>(&self, f: &mut fmt::Formatter<W>) -> fmt::Result {
         match self {
-            Refusal::Limit => write!(f, "past a limit"),
-            Refusal::Outside => write!(f, "outside its range"),
+            Refusal::Limit => f.write_str("past a limit"),
+            Refusal::Outside => f.write_str("outside its range"),
         }
     }
 }

@@ -36,7 +36,8 @@ impl Open {
     }
 }
 
-// What is open. The things lie in lent memory, the topmost last.
+// What is open. The things lie in lent memory, the topmost last. It is not `Copy` and has no equality: a model with a
+// lifetime allows neither.
 #[derive(Debug, Drop)]
 pub struct Stack<'a> {
     things: &'a [Open],

@@ -22,7 +22,8 @@ pub enum Open {
 }
 
 // A step of the machine. Lengths and places are in points.
-// No word: it has no size of a page, no element, and of a mark only whether it is owned. What a file does is told in steps too.
+// Not `page`'s `Word`: a step has no page size, no element, and of a mark only whether it is owned; what a file does is told
+// in steps too.
 // A place stays two numbers here and in calls: the definitions and laws speak of two (`Step.Origin a b`, `shifted axes a b`),
 // as a word does, and a struct would be taken apart at every one.
 #[derive(Clone, Copy, PartialEq, Eq, Debug)]
@@ -77,8 +78,8 @@ pub enum Letter {
 }
 
 // A drawn thing. Its place is in tenths of a point.
-// Every letter has all the fields, and a paint's operator is a number: they are those of an item, the record that the
-// outputs fix.
+// Every letter has all the fields, and a paint's operator is a number: they are those of an item, a record that the project
+// fixes, since callers read it in a tray that they lent.
 #[derive(Clone, Copy, PartialEq, Eq, Debug)]
 pub struct Drawn {
     pub letter: Letter,

@@ -23,7 +23,8 @@ pub fn encode(word: Word) -> Option<u32>
 fn payload(word: &Word) -> Option<Payload>
     ensures { with_payload (word_kind word.now) result ≡ encoded word.now }
 {
-    // By reference: matched as a value, or as `*word`, the arm of four variants gets no proof.
+    // By reference: matched as a value, or as `*word`, the arm of four variants gets no proof here, where its numbers are
+    // passed on as values; where they are printed, by reference, it does.
     match word {
         Word::Page { width, height } => page(*width, *height),
         Word::Close | Word::Save => Some(Payload { bits: 0 }),

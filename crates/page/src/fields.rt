@@ -53,7 +53,7 @@ impl Fields {
         }
     }
 
-    // Two numbers as fields.
+    // Two numbers as fields. For use in a closure, where a callee's `requires` is found, and a field's fact is not.
     pub(crate) fn new(a: u16, b: u16) -> Fields
         requires a_short { a < 2 ^ 14 }
         requires b_short { b < 2 ^ 14 }
@@ -125,7 +125,7 @@ impl Payload {
         (bits < 1 << 28).then(|| Payload::of_bits(bits))
     }
 
-    // Bits below the kind.
+    // Bits below the kind; for use in a closure, like `Fields::new`.
     fn of_bits(bits: u32) -> Payload
         requires { bits < 2 ^ 28 }
         ensures { result.bits ≡ bits }

@@ -51,7 +51,7 @@ fn digits_in(token: &[u8]) -> &[u8]
     }
 }
 
-// The number that digits write.
+// The number that digits write. Over `hex_value` and not `to_digit`, with which the loop did not close.
 fn value_of(digits: &[u8]) -> Result<u32, Reason>
     ensures { result ≡ value_of digits.now }
 {

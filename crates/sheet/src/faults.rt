@@ -24,7 +24,7 @@ pub enum FaultKind {
 }
 
 // A fault, with the object or entry that it is found in (0 if none) and an offset in the file.
-// No `Option`: the outputs fix the 0, which names the free entry too.
+// No `Option`: the project fixes the 0 in what callers are told, and it names the free entry too.
 #[derive(Clone, Copy, PartialEq, Eq, Debug)]
 pub struct Fault {
     pub kind: FaultKind,

@@ -3,8 +3,8 @@ use machine::Letter;
 
 // A thing that was drawn inside the mark of an element. Its place (x, y) is in tenths of a point; `element` is the
 // element's number in reading order, from 1.
-// Every letter has all the fields, and a paint's operator is a number: the outputs fix this record of a lent tray, which has
-// zeros after the last item.
+// Every letter has all the fields, a paint's operator is a number, and no `Drawn` is inside: the project fixes this record,
+// since callers read it in a tray that they lent, with zeros after the last item.
 #[derive(Clone, Copy, PartialEq, Eq, Debug)]
 pub struct Item {
     pub letter: Letter,

@@ -48,6 +48,7 @@ pub fn label_file_reads_as_said()
 {}
 
 // A word is refused by a number exactly if that number's condition holds and none of a lower number does.
+// This call and the next have an answer: `using(..)` with their lemmas did not prove them.
 pub fn words_are_refused_by_the_first_condition()
     ensures { RefusedByTheFirstCondition }
 {}

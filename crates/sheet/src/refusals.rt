@@ -35,7 +35,8 @@ pub enum WordRefusal {
 }
 
 // A refused word: its place in the script, from 0, and the number of the refusal.
-// A number and no enum: the outputs fix this record of a lent tray, which has zeros after the last note.
+// A number and no enum: the project fixes this record, since callers read it in a tray that they lent, with zeros after the
+// last note.
 #[derive(Clone, Copy, PartialEq, Eq, Debug)]
 pub struct Note {
     pub place: u32,

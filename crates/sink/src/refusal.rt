@@ -25,7 +25,7 @@ impl fmt::Display for Refusal {
 
     fn fmt<W: fmt::Write>(&self, f: &mut fmt::Formatter<W>) -> fmt::Result {
         match self {
-            Refusal::Full => write!(f, "no room"),
+            Refusal::Full => f.write_str("no room"),
         }
     }
 }

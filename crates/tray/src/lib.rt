@@ -60,6 +60,7 @@ impl<'a, T: Copy> Tray<'a, T> {
     }
 
     // The list of the first `count` records of the memory (all of them, if it is shorter), as an earlier tray left it there.
+    // The two stay two, as in `append`.
     pub fn resume(memory: &'a mut [T], count: usize) -> Tray<'a, T>
         ensures list { records result ≡ take count memory.old }
         ensures rest { beyond result ≡ drop count memory.old }
@@ -166,8 +167,7 @@ impl<'a, T: Copy> Tray<'a, T> {
         ensures count { result ≡ length (records self.entry) }
         ensures lands { self.exit.0.now ≡ records self.entry ++ beyond self.entry }
     {
-        let Tray { memory: _, count } = self;
-        count
+        self.len()
     }
 }
 
