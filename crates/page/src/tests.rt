@@ -4,7 +4,7 @@ use crate::{decode, encode};
 use std::process::Abort;
 
 // Bits, and the word that they say, or the number of the refusal.
-const TABLE: [(u32, Result<Word, u8>); 47] = [
+const TABLE: [(u32, Result<Word, u8>); 49] = [
     (
         0x0000_C003,
         Ok(Word::Page {
@@ -99,12 +99,24 @@ const TABLE: [(u32, Result<Word, u8>); 47] = [
             codes: Codes::Two(32, 126),
         }),
     ),
+    (
+        0xC27E_2000,
+        Ok(Word::Show {
+            codes: Codes::Two(126, 32),
+        }),
+    ),
     (0xC27E_7F00, Err(11)),
     (0xC27E_2001, Err(11)),
     (
         0xC320_7E20,
         Ok(Word::Show {
             codes: Codes::Three(32, 126, 32),
+        }),
+    ),
+    (
+        0xC37E_207E,
+        Ok(Word::Show {
+            codes: Codes::Three(126, 32, 126),
         }),
     ),
     (0xC320_7E1F, Err(11)),
