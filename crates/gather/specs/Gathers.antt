@@ -1,6 +1,6 @@
 -- The meaning of a gathering layer: a sink below, and some last bytes that wait.
-use Rattle.std.proofs.Common.{arith, sym, ap, ◌∙◌, length-append}
-use Rattle.std.specs.Prelude.{◌≡◌, ℕ, ◌+◌, ◌-◌, ◌≤◌, true, List, ◌++◌, length, drop, is_ok, Result}
+use Rattle.std.proofs.Common.{arith, sym, ap, ◌∙◌, length-append, length-take}
+use Rattle.std.specs.Prelude.{◌≡◌, ℕ, ◌+◌, ◌-◌, ◌≤◌, min, true, List, ◌++◌, length, take, drop, is_ok, Result}
 use Rattle.std.proofs.lemmas.List.{drop-drop, take-append-le}
 use Rattle.sink.specs.declared.refusal.Refusal.{Refusal}
 use Rattle.sink.specs.Meaning.{View, Lawful, grown}
@@ -27,3 +27,10 @@ gathered_lawful {v} {held} {memory} waiting fits l =
       stored = rw front (l.stored ∙ sym (take-append-le (length v.bytes - held) v.bytes waiting (omega arith)));
       untouched = rw all (sym (drop-drop (length waiting) (length v.bytes) memory) ∙ ap (drop (length waiting)) l.untouched);
     }
+
+-- Likewise where the first bytes wait, as far as there is room below.
+pub layer_lawful : {v : View} {held : ℕ} {memory : List ℕ} (items : List ℕ) → Lawful v held memory → Lawful (grown v (take (min (length items) v.room) items)) (held + min (length items) v.room) memory
+layer_lawful {v} {held} {memory} items l =
+    let n = min (length items) v.room in
+    let few : length (take n items) ≡ n = length-take n items ∙ omega arith in
+    rw few at (gathered_lawful (take n items) (omega arith) l)

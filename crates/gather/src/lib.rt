@@ -4,7 +4,7 @@
 ghost use Rattle.std.specs.Prelude.{◌≡◌, ◌+◌, ◌≤◌, [], length};
 ghost use Rattle.arrayvec.specs.ArrayVec.{array_vec_len};
 ghost use Rattle.sink.specs.Meaning.{Writes};
-ghost use Rattle.gather.specs.Gathers.{most_waiting, gathered_lawful, WaitsIfShort};
+ghost use Rattle.gather.specs.Gathers.{most_waiting, layer_lawful, WaitsIfShort};
 
 use arrayvec::ArrayVec;
 use sink::Sink;
@@ -16,13 +16,13 @@ mod tests;
 // The most bytes that a layer holds back.
 const MOST: usize = 64;
 
-// A sink, and its last bytes, which wait: no more than a layer may hold back, and than there is room for below.
+// A sink, and its last bytes, which wait: no more of them than a layer may hold back. Of more than there is room for below only
+// so many count, so the type asks nothing of S.
 #[derive(Drop)]
-pub struct Gather<S: Sink> {
+pub struct Gather<S> {
     below: S,
     waiting: ArrayVec<u8, MOST>,
     ghost few: { array_vec_len waiting ≤ most_waiting },
-    ghost fits: { array_vec_len waiting ≤ (S.view below).room },
 }
 
 impl<S: Sink> Gather<S> {
@@ -31,8 +31,8 @@ impl<S: Sink> Gather<S> {
     // A layer over a sink, with nothing waiting.
     #[tactic(auto, unfolding(sink::specs::Meaning::grown))]
     pub fn new(below: S) -> Gather<S>
-        ensures same { layer_view result ≡ S.view below }
-        ensures none { waiting_in result ≡ 0 }
+        ensures same { layer_view S.Sink result ≡ S.view below }
+        ensures none { waiting_in S.Sink result ≡ 0 }
         ensures sink { result.below ≡ below }
     {
         Gather {
@@ -43,49 +43,55 @@ impl<S: Sink> Gather<S> {
 
     // How many bytes wait in this layer.
     pub fn waiting(&self) -> usize
-        ensures value { result ≡ waiting_in self.now }
+        ensures value { result ≡ waiting_in S.Sink self.now }
         ensures bound { result ≤ most_waiting }
     {
-        self.waiting.len()
+        self.waiting.len().min(self.below.room())
     }
 
     // Passes down what waits.
     #[tactic(auto, unfolding(sink::specs::Meaning::grown))]
     fn pass_down(&mut self)
-        ensures same { layer_view self.new ≡ layer_view self.old }
+        ensures same { layer_view S.Sink self.new ≡ layer_view S.Sink self.old }
         ensures none { self.new.waiting.items ≡ [] }
     {
-        self.below.put(&self.waiting).unwrap();
-        self.waiting.clear();
+        let at = self.waiting();
+        self.below.put(&self.waiting[..at]).unwrap();
+        // Not by `clear`, which writes a blank over each byte that waited, one by one.
+        self.waiting = ArrayVec::new();
     }
 }
 
 impl<S: Sink> Sink for Gather<S> {
     ghost use Rattle.gather.specs.Layers.{layer_view, layer_held, waiting_in};
 
-    ghost view = { layer_view };
+    ghost view = { layer_view S.Sink };
 
-    ghost held = { layer_held };
+    ghost held = { layer_held S.Sink };
 
     ghost memory = { λ s. S.memory s.below };
 
-    ghost lawful = { λ s. gathered_lawful s.waiting.items s.fits (S.lawful s.below) };
+    ghost lawful = { λ s. layer_lawful s.waiting.items (S.lawful s.below) };
 
     #[tactic(auto, unfolding(sink::specs::Meaning::grown))]
     fn put(&mut self, part: &[u8]) -> Result<(), Refusal>
-        ensures writes { Writes layer_view layer_held (λ s. S.memory s.below) result part.now self.old self.new }
-        ensures gathers { WaitsIfShort result (length part.now) (waiting_in self.old) (waiting_in self.new) (S.view self.old.below) (S.view self.new.below) }
+        ensures writes { Writes (layer_view S.Sink) (layer_held S.Sink) (λ s. S.memory s.below) result part.now self.old self.new }
+        ensures gathers { WaitsIfShort result (length part.now) (waiting_in S.Sink self.old) (waiting_in S.Sink self.new) (S.view self.old.below) (S.view self.new.below) }
     {
         let n = part.len();
-        if n > (*self).room() {
+        // Asked once: in a pile each layer asks the one below.
+        let room = self.below.room();
+        let waits = self.waiting.len().min(room);
+        if n > room - waits {
             return Err(Refusal::Full);
         }
-        if n > self.waiting.remaining_capacity() {
+        if n > MOST - waits {
             self.pass_down();
         }
         if n > MOST {
             return self.below.put(part);
         }
+        self.waiting.truncate(waits);
         self.waiting.try_extend_from_slice(part).unwrap();
         Ok(())
     }

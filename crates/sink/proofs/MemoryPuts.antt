@@ -5,7 +5,7 @@ use Rattle.std.proofs.lemmas.List.{drop-drop}
 use Rattle.std.proofs.lemmas.List.Edits.{length-paste, take-paste, drop-paste}
 use Rattle.sink.specs.declared.refusal.Refusal.{Refusal}
 use Rattle.sink.specs.Meaning.{grown, View, Puts, Took, answer}
-use Rattle.sink.specs.Memory.{capacity, memory_view, fresh_view, memory_after}
+use Rattle.sink.specs.Memory.{capacity, count_in, memory_view, fresh_view, memory_after}
 use Rattle.sink.proofs.Grown.{same_view, puts_loans, puts_whole}
 
 -- the part stands after the bytes
@@ -13,12 +13,15 @@ pub memory_put : (m m' part : List ℕ) (len loan : ℕ) → len + length part �
 unfolding grown
 memory_put m m' part len loan fits wrote =
     let n = length part in
+    let same : length m' ≡ length m = rw wrote (length-paste m len part n (omega arith) (omega arith)) in
+    let before : count_in m len ≡ len = omega arith in
+    let after : count_in m' (len + n) ≡ len + n = omega (arith, same) in
     record {
       is =
           same_view
-          (rw wrote (take-paste m len part n (omega arith) (omega arith) ∙ ap (λ xs. take len m ++ xs) (take_all n part (omega arith))))
-          (rw wrote (omega (arith, length-paste m len part n (omega arith) (omega arith))))
-          (rw wrote (drop-paste m len part n (omega arith) (omega arith) ∙ sym (drop-drop n len m)))
+          (rw (after, wrote) (take-paste m len part n (omega arith) (omega arith) ∙ ap (λ xs. xs ++ take n part) (ap (λ k. take k m) (sym before)) ∙ ap (λ xs. take (count_in m len) m ++ xs) (take_all n part (omega arith))))
+          (omega (arith, same))
+          (rw (after, wrote) (drop-paste m len part n (omega arith) (omega arith) ∙ rw before (sym (drop-drop n len m))))
           refl;
     }
 

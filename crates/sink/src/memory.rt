@@ -62,7 +62,7 @@ impl<L: Layout> Sink for Memory<'_, L> {
 
     ghost memory = { λ s. L.flat s.cells.now };
 
-    ghost lawful = { λ s. memory_lawful (L.flat s.cells.now) s.len s.cells.ghost_name s.within };
+    ghost lawful = { λ s. memory_lawful (L.flat s.cells.now) s.len s.cells.ghost_name };
 
     #[tactic(auto, using(crate::proofs::Grown::writes_refused, crate::proofs::Grown::writes_taken, crate::proofs::MemoryPuts::memory_put))]
     fn put(&mut self, part: &[u8]) -> Result<(), Refusal> {

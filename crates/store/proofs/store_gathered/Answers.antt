@@ -1,7 +1,7 @@
-use Rattle.std.proofs.Common.{◌≡◌, ◌≤◌, length, ap, ◌∙◌, arith, rules}
+use Rattle.std.proofs.Common.{◌≡◌, ◌≤◌, min, length, take, ap, ◌∙◌, arith, rules, length-take}
 use Rattle.sink.specs.Meaning.{View, lent_lawful}
 use Rattle.sink.proofs.Grown.{settled_memory}
-use Rattle.gather.specs.Gathers.{gathered_lawful}
+use Rattle.gather.specs.Gathers.{layer_lawful}
 use Rattle.gather.proofs.Layers.{layered}
 use Rattle.store.proofs.store_gathered.Goals as goal
 
@@ -10,8 +10,10 @@ returns g c =
     let before = c.store-answer.new.sink in
     let layer = c.settle.new.self in
     let below = layer.below.now in
-    let empty : length layer.waiting.items ≡ 0 = omega (arith, c.settle.ensures.none_held) in
-    let all = layered layer.waiting.items c.new-layer.ensures.same c.store-answer.ensures.puts c.settle.ensures.same empty in
+    let n = min (length layer.waiting.items) (g.S.Sink.view below).room in
+    let kept = take n layer.waiting.items in
+    let empty : length kept ≡ 0 = length-take n layer.waiting.items ∙ omega (arith, c.settle.ensures.none_held) in
+    let all = layered kept c.new-layer.ensures.same c.store-answer.ensures.puts c.settle.ensures.same empty in
     let lender = all.lender in
     let puts = all.puts in
     let none : g.S.Sink.held below ≡ 0 = omega (arith, c.settle.ensures.none_held) in
@@ -19,7 +21,7 @@ returns g c =
     let whole = c.settle.ensures.same ∙ all.whole in
     let bytes : c.len.result ≡ length (g.S.Sink.view below).bytes = omega (arith, c.len.ensures, ap (λ (w : View). length w.bytes) whole) in
     let room : c.room.result ≡ (g.S.Sink.view below).room = omega (arith, c.room.ensures, ap (λ (w : View). w.room) whole) in
-    let few = (gathered_lawful before.waiting.items before.fits (lent_lawful before.below.ghost_name (g.S.Sink.lawful before.below.now))).few_held in
+    let few = (layer_lawful before.waiting.items (lent_lawful before.below.ghost_name (g.S.Sink.lawful before.below.now))).few_held in
     let same = ap (λ (w : View). length w.bytes) c.settle.ensures.same in
     let waited : c.held-waited.result ≤ length (g.S.Sink.view below).bytes = omega (arith, c.held-waited.ensures, c.len.ensures) in
     record {
