@@ -1,5 +1,5 @@
 -- The state of the machine, what a step makes of it, its limits, and what a step draws.
-use Rattle.std.specs.Prelude.{◌≡◌, ℕ, ◌+◌, ◌*◌, ◌≤◌, Bool, true, cond, ◌&&◌, List, [], ◌∷◌, ℤ, pos, ◌+ℤ◌, ◌*ℤ◌, nat_le, nat_lt}
+use Rattle.std.specs.Prelude.{◌≡◌, ℕ, ◌+◌, ◌*◌, Bool, true, cond, ◌&&◌, List, [], ◌∷◌, ℤ, pos, ◌+ℤ◌, ◌*ℤ◌, nat_le, nat_lt}
 use Rattle.page.specs.Numbers.{count_of, operator_number}
 use Rattle.page.specs.declared.types.Codes.{Codes}
 use Rattle.page.specs.declared.types.Codes.TheVariants.{One, Two, Three}
@@ -151,11 +151,6 @@ within_limits saves s (step.Paint operator) = true
 within_limits saves s (step.Text size) = true
 within_limits saves s (step.Place a b) = true
 within_limits saves s (step.Show codes) = nat_le (s.numbers.counts.drawn + count_of codes) most_drawn
-
--- The count of glyphs and points keeps its limit, and no glyph is wider than 6 × 255 tenths, so the advance does not overflow.
-pub record Bounded (n : Numbers) : Type 0 where
-  pub counted : n.counts.drawn ≤ most_drawn
-  pub advances : n.line.advance ≤ 1530 * n.counts.drawn
 
 -- Whether the start of the line of text is within its range.
 abbrev pub line_inside : TextLine → Bool

@@ -8,12 +8,17 @@ use crate::places::Place;
 use crate::types::{Axes, Drawn, Letter, Numbers};
 use page::PaintOperator;
 
-// The byte that stands for a letter.
+// The byte that stands for a letter. A table and no discriminants: what `as` makes of a letter stays its place in the list.
 impl From<Letter> for u8 {
     ghost from_gives = { λ letter byte. byte ≡ byte_of letter };
 
     fn from(letter: Letter) -> u8 {
-        letter as u8
+        match letter {
+            Letter::Glyph => b'G',
+            Letter::Move => b'M',
+            Letter::Line => b'L',
+            Letter::Paint => b'Z',
+        }
     }
 }
 

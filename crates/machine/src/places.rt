@@ -74,15 +74,16 @@ impl Place {
 }
 
 // How far from 0 an offset and the start of a line of text may be, in points.
-const FARTHEST: i32 = 14_400;
+const FARTHEST: i64 = 14_400;
 
 // A number, if it is within ±14,400.
 fn narrow(z: i64) -> Result<i32, Refusal>
     ensures { result ≡ allowed (within z) Outside z }
 {
-    match i32::try_from(z) {
-        Ok(z) if (-FARTHEST..=FARTHEST).contains(&z) => Ok(z),
-        _ => Err(Refusal::Outside),
+    if (-FARTHEST..=FARTHEST).contains(&z) {
+        Ok(z as i32)
+    } else {
+        Err(Refusal::Outside)
     }
 }
 

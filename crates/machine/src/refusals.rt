@@ -1,16 +1,24 @@
 // Why the machine refuses a step.
-ghost use Rattle.machine.specs.Refusals.{text_of_refusal};
-ghost use Rattle.std.specs.Prelude.{Some};
+ghost use Rattle.machine.specs.Refusals.{number_of, text_of_refusal};
+ghost use Rattle.std.specs.Prelude.{◌≡◌, Some};
 
 use std::error::Error;
 use std::fmt;
 
-// There are as many as the limit allows, or a place would be outside its range. Whoever runs the machine answers with a
-// refusal of its own, so the cases have no numbers.
+// There are as many as the limit allows, or a place would be outside its range; with the number of the word's refusal.
 #[derive(Clone, Copy, PartialEq, Eq, Debug)]
 pub enum Refusal {
-    Limit,
-    Outside,
+    Limit = 14,
+    Outside = 15,
+}
+
+// The number that a refusal is known by.
+impl From<Refusal> for u8 {
+    ghost from_gives = { λ refusal number. number ≡ number_of refusal };
+
+    fn from(refusal: Refusal) -> u8 {
+        refusal as u8
+    }
 }
 
 impl fmt::Display for Refusal {

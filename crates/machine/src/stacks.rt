@@ -85,8 +85,8 @@ impl<'a> Stack<'a> {
     {
         self.things
             .iter()
-            .filter(|thing| matches!(thing, Open::Save { .. }))
-            .count()
+            .map(|thing| usize::from(matches!(thing, Open::Save { .. })))
+            .sum()
     }
 
     // Whether one of the things passes a test.

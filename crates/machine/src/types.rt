@@ -67,14 +67,13 @@ pub struct Numbers {
     pub(crate) counts: Counts,
 }
 
-// What a drawn thing is: a glyph, a point that a path goes on from, the end of a line, or the end of a path, with the
-// byte that stands for it.
+// What a drawn thing is: a glyph, a point that a path goes on from, the end of a line, or the end of a path.
 #[derive(Clone, Copy, PartialEq, Eq, Debug)]
 pub enum Letter {
-    Glyph = b'G' as isize,
-    Move = b'M' as isize,
-    Line = b'L' as isize,
-    Paint = b'Z' as isize,
+    Glyph,
+    Move,
+    Line,
+    Paint,
 }
 
 // A drawn thing. Its place is in tenths of a point.

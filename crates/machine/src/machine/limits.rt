@@ -24,7 +24,7 @@ pub(super) fn one_more(count: u32, most: u32) -> Result<u32, Refusal>
 impl Machine {
     // Whether a step keeps the limits, with so many saves open at most.
     pub fn within_limits(&self, most: usize, stack: &Stack<'_>, step: Step) -> bool
-        ensures { result ≡ within_limits most (state_of stack.now self.now) step }
+        ensures { result ≡ within_limits most (state_of stack.now self.now.numbers) step }
     {
         let counts = self.numbers.counts;
         match step {
@@ -39,14 +39,14 @@ impl Machine {
 
     // Whether so many glyphs or points more keep the limit.
     fn has_room(&self, more: u32) -> bool
-        ensures { result ≡ nat_le (self.now.counts.drawn + more) most_drawn }
+        ensures { result ≡ nat_le (self.now.numbers.counts.drawn + more) most_drawn }
     {
         more <= MOST_DRAWN - self.numbers.counts.drawn
     }
 
     // Whether a step leaves the offset and the start of the line of text within their range.
     pub fn inside_range(&self, step: Step) -> bool
-        ensures { (stack : List Open) → result ≡ inside_range (state_of stack self.now) step }
+        ensures { (stack : List Open) → result ≡ inside_range (state_of stack self.now.numbers) step }
     {
         match step {
             Step::Origin { a, b } => self.numbers.axes.shifted(a, b).is_ok(),
