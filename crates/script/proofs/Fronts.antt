@@ -10,7 +10,7 @@ use Rattle.script.specs.Readings.{white, opens_comment, ends_comment, in_token, 
 pub skip_white : (b : ℕ) (bs : List ℕ) → white b ≡ true → skip_from false (b ∷ bs) ≡ skip_from false bs
 skip_white b bs t = rw (t, skip_from)
 
-skip_opens : (b : ℕ) (bs : List ℕ) → white b ≡ false → opens_comment b ≡ true → skip_from false (b ∷ bs) ≡ skip_from true bs
+pub skip_opens : (b : ℕ) (bs : List ℕ) → white b ≡ false → opens_comment b ≡ true → skip_from false (b ∷ bs) ≡ skip_from true bs
 skip_opens b bs f t = rw (f, skip_from, t)
 
 pub skip_stops : (b : ℕ) (bs : List ℕ) → in_token b ≡ true → skip_from false (b ∷ bs) ≡ b ∷ bs

@@ -3,5 +3,6 @@ pub mod Written
 pub mod Fronts
 pub mod Stepwise
 pub mod Lawful
+pub mod Placed
 pub mod Mapped
 pub mod Taken

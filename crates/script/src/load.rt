@@ -44,6 +44,8 @@ impl From<Fault> for ScriptFault {
 }
 
 // How many words a script has, or the fault of the first that cannot be read.
+// Inlined, so that where a caller lets the fault go its place is not looked for.
+#[inline]
 pub fn count_words(text: &[u8]) -> Result<usize, Fault>
     ensures { result ≡ counted text.now (reading_of text.now) }
 {

@@ -15,12 +15,16 @@ impl Position {
         ensures { result ≡ position_of text.now at }
     {
         let before = &text[..at.min(text.len())];
-        let line_ends = before.iter().filter(|byte| **byte == b'\n').count();
         let in_line = before
             .iter()
             .rev()
             .take_while(|byte| **byte != b'\n')
             .count();
+        // Up to the last line end, behind which there is none. No `filter` and `count`: they branch at each byte.
+        let line_ends: usize = before[..before.len() - in_line]
+            .iter()
+            .map(|byte| usize::from(*byte == b'\n'))
+            .sum();
         Position {
             line: 1 + line_ends,
             column: 1 + in_line,

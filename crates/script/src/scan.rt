@@ -96,6 +96,8 @@ impl<'a> Reader<'a> {
 
     // Takes the next word; none at the end. After a token that cannot be read the reader stands before that token.
     // Not an `Iterator`: a fault is told again and again, so it is endless, and no `for` or `count` over it is proved.
+    // Inlined into the loops that call it for each word.
+    #[inline]
     pub fn next(&mut self) -> Result<Option<u32>, Fault>
         ensures item { result ≡ item_of self.old.text.now (next_in (left self.old)) }
         ensures left { left self.new ≡ left_after (next_in (left self.old)) }
