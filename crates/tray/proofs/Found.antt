@@ -1,7 +1,20 @@
 -- The first record that passes a test.
-use Rattle.std.proofs.Common.{◌≡◌, ℕ, zero, suc, Bool, true, false, List, [], ◌∷◌, length, Some, None, Option, find, sym, ◌∙◌, ⊎_elim, arith}
+use Rattle.std.proofs.Common.{◌≡◌, ℕ, zero, suc, Bool, true, false, List, [], ◌∷◌, length, Some, None, Option, find, sym, ap, subst, ◌∙◌, ⊎_elim, arith}
 use Rattle.std.proofs.lemmas.Bool.{cond-true, cond-false, eq-eqb, eqb-true, cases_Bool, both_ways}
+use Rattle.std.proofs.lemmas.Iterator.{YieldsList, YieldsList-from_slice}
+use Rattle.std.proofs.lemmas.Iterator.Consumers.{YieldsList-from_shown}
+use Rattle.std.proofs.lemmas.Iterator.Search.{find_from_yields_List}
+use Rattle.std.specs.Bool.{⊤}
+use Rattle.std.specs.Fn.{CalledAt}
+use Rattle.std.specs.Iterator.{YieldsThen}
+use Rattle.std.specs.Iterator.Runs.{Run}
+use Rattle.std.specs.List.{FoldsTo}
+use Rattle.std.specs.Option.{MatchOption, option_map}
+use Rattle.std.specs.Iterator.Adapters.{rev_source, rev_steps}
+use Rattle.std.specs.Slice.Iter.{iter_rest, iter_steps}
 use Rattle.tray.specs.Finds.{with_key, NoneBefore, Earliest, FirstWith}
+use denote.Param.Members.{Mut}
+use denote.Ref.{Bor}
 
 -- the first record that passes the test is the earliest that is sought, where the test tells what is sought
 module _ {T : Type 0} (test : T → Bool) (Sought : T → Type 0) (tells : (x : T) → test x ≡ true → Sought x) (shows : (x : T) → Sought x → test x ≡ true) where
@@ -35,3 +48,18 @@ module _ {T : Type 0} (test : T → Bool) (Sought : T → Type 0) (tells : (x : 
 
 pub first_with_key : {T : Type 0} (key : T → ℕ) (k : ℕ) (xs : List T) (r : Option T) → r ≡ find (with_key key k) xs → FirstWith (λ x. key x ≡ k) xs r
 first_with_key key k = first_with_lem (with_key key k) (λ x. key x ≡ k) (λ x. eqb-true (key x) k) (λ x. eq-eqb (key x) k)
+
+-- turned twice, records come in their order
+pub turned_twice : {A : Type 0} {s : _} {t : _} {i : _} (xs : List A) → rev_source s ≡ t → rev_source t ≡ i → iter_rest i ≡ xs → YieldsList (rev_steps (rev_steps iter_steps)) (λ y. y.now) s xs
+turned_twice {A} {s} xs d e f =
+    subst (YieldsList (rev_steps (rev_steps iter_steps)) (λ y. y.now) s) (ap (λ t. iter_rest (rev_source t)) d ∙ ap iter_rest e ∙ f)
+    (YieldsList-from_shown (rev_steps (rev_steps iter_steps)) (λ y. y.now) (λ u. iter_rest (rev_source (rev_source u))) (λ u t p. p.0) (λ u x t p. p) s)
+
+-- the ways through a slice that give its records in their order
+pub ruleset in_order = (YieldsList-from_slice, turned_twice)
+
+-- what `find` gives of the records that an iterator yields; its run says which iterator
+pub found_on_run : {S T F : Type 0} {steps : S → Option (Bor T) → S → Type 0} {g : Mut F (Bor (Bor T) × Unit {0}) Bool} {s : S} (test : T → Bool) (p : Run steps) → p.from ≡ s → (u : S) (f : F) (r : Option (Bor T))
+    → (ys : List (Bor T)) × (j : F) × YieldsThen steps s ys r u × FoldsTo (λ p x q. CalledAt g p x false q) f ys j × MatchOption r ⊤ (λ x. (h : F) × CalledAt g j x true h)
+    → (xs : List T) → YieldsList steps (λ y. y.now) s xs → ((x : Bor T) (b : Bool) (q : F) → CalledAt g f x b q → (q ≡ f) × (b ≡ test x.now)) → option_map (λ y. y.now) r ≡ find test xs
+found_on_run test p from u f r ran xs road calls = find_from_yields_List test u f r ran road calls

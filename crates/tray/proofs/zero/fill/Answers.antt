@@ -1,5 +1,6 @@
 -- `fill` makes every record zero.
-use Rattle.std.proofs.Common.{◌≡◌, List, [], ◌∷◌, length, replicate, refl, ap, subst, ◌∙◌, rules, tests}
+use Rattle.std.proofs.Common.{◌≡◌, List, [], ◌∷◌, length, replicate, refl, ap, subst, rules, tests, arith}
+use Rattle.std.proofs.lemmas.Grind.{common_steps}
 use Rattle.std.specs.List.{FoldsTo}
 use Rattle.tray.proofs.zero.fill.Goals as goal
 
@@ -12,4 +13,6 @@ made_replicate R f y gives (x ∷ xs) last (q, c, rest) =
 
 pub returns : goal.returns
 returns g c =
-    made_replicate _ _ g.T.Zero.zero (λ x q k. search (rules, tests)) _ _ c.fill_with.ensures.ran.1 ∙ ap (λ n. replicate n g.T.Zero.zero) c.fill_with.ensures.len
+    let made = made_replicate _ _ g.T.Zero.zero (λ x q k. search (rules, tests)) _ _ c.fill_with.ensures.ran.1 in
+    let kept = c.fill_with.ensures.len in
+    grind (arith, common_steps, made, kept)
