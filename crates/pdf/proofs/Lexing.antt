@@ -32,7 +32,7 @@ body_le : (p : Place) (cs : List ℕ) → IfSome (body p cs) λ r. length r.1 �
 body_le p [] = tt
 body_le p (c ∷ cs) = IfSome_then (body p (c ∷ cs)) (act_below (λ q. body q cs) cs (act p c) (λ q. body_le q cs)) λ r h. omega arith
 
-plain_regular : (c : ℕ) → kind_of c ≡ plain → regular c ≡ true
+pub plain_regular : (c : ℕ) → kind_of c ≡ plain → regular c ≡ true
 plain_regular c e = grind (arith, nat_tests)
 
 plain_gives : (c : ℕ) (cs : List ℕ) → regular c ≡ true → Gives writable (lex_by plain c cs) (length (c ∷ cs))

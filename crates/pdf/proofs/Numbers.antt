@@ -20,13 +20,13 @@ own = numerals_by_fold _ (search rules) read_on (search rules)
 small : (n : ℕ) → nat_le n greatest ≡ true → n < 2 ^ 64
 small n h = omega (arith, leb-true n greatest h)
 
-decimal_digits : (n : ℕ) → nat_le n greatest ≡ true → each digit (decimal n) ≡ true
+pub decimal_digits : (n : ℕ) → nat_le n greatest ≡ true → each digit (decimal n) ≡ true
 decimal_digits n h = digits_decimal own n (small n h)
 
-natural_of : (ds : List ℕ) (n : ℕ) → each digit ds ≡ true → 0 < length ds → read_on 0 ds ≡ n → natural ds ≡ Some n
+pub natural_of : (ds : List ℕ) (n : ℕ) → each digit ds ≡ true → 0 < length ds → read_on 0 ds ≡ n → natural ds ≡ Some n
 natural_of ds n h l e = grind arith
 
-natural_decimal : (n : ℕ) → nat_le n greatest ≡ true → natural (decimal n) ≡ Some n
+pub natural_decimal : (n : ℕ) → nat_le n greatest ≡ true → natural (decimal n) ≡ Some n
 natural_decimal n h = natural_of (decimal n) n (decimal_digits n h) (decimal_nonempty n (small n h)) (digits_value-decimal own n (small n h))
 
 -- Digits have no sign in front.

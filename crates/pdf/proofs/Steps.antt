@@ -6,7 +6,7 @@ use Rattle.pdf.specs.Values.{Value, number, ref, Values, ◌◂◌, Entries, ent
 use Rattle.pdf.proofs.Tokens.{tokens_read_back}
 
 -- A token that opens nothing is read the same at every depth.
-leaf_at : (d : ℕ) (t : Token) (bs : List ℕ) → opens t ≡ nothing → value_at d t bs ≡ leaf t bs
+pub leaf_at : (d : ℕ) (t : Token) (bs : List ℕ) → opens t ≡ nothing → value_at d t bs ≡ leaf t bs
 unfolding value_at
 leaf_at zero t bs h = refl
 leaf_at (suc d) t bs h = rw h
@@ -30,12 +30,12 @@ item_at-one : (d : ℕ) (t : Token) (bs : List ℕ) (v : Value) (cs : List ℕ) 
 item_at-one d t bs v cs h = grind (arith, leaf_at d array_close bs refl)
 
 -- Where a value is read, it is one step of an array.
-item_one : (d : ℕ) (bs : List ℕ) (v : Value) (cs : List ℕ) → value d bs ≡ Some (v, cs) → item (value_at d) bs ≡ one v cs
+pub item_one : (d : ℕ) (bs : List ℕ) (v : Value) (cs : List ℕ) → value d bs ≡ Some (v, cs) → item (value_at d) bs ≡ one v cs
 unfolding value item
 item_one d bs v cs h = grind (arith, item_at-one d)
 
 -- Where a key and a value are read, they are one step of a dictionary.
-field_one : (d : ℕ) (s : List ℕ) (v : Value) (bs cs ds : List ℕ) → token bs ≡ Some (name s, cs) → value d cs ≡ Some (v, ds) → field (value_at d) bs ≡ one (s, v) ds
+pub field_one : (d : ℕ) (s : List ℕ) (v : Value) (bs cs ds : List ℕ) → token bs ≡ Some (name s, cs) → value d cs ≡ Some (v, ds) → field (value_at d) bs ≡ one (s, v) ds
 unfolding value field
 field_one d s v bs cs ds p q = rw (p, q)
 

@@ -16,7 +16,7 @@ regular_begins : (c : ℕ) (cs : List ℕ) → regular c ≡ true → lex (skip 
 regular_begins c cs h = grind (arith, nat_tests)
 
 -- A run of regular bytes is one token.
-run_token : (bs rest : List ℕ) → 0 < length bs → each regular bs ≡ true → stops rest ≡ true → token (bs ++ rest) ≡ Some (word_is (integer bs) bs, rest)
+pub run_token : (bs rest : List ℕ) → 0 < length bs → each regular bs ≡ true → stops rest ≡ true → token (bs ++ rest) ≡ Some (word_is (integer bs) bs, rest)
 unfolding token
 run_token [] rest l h s = absurd (omega arith)
 run_token (c ∷ cs) rest l h s =
