@@ -1,5 +1,5 @@
--- `find` answers the first record with the key. The way through the records is searched for, so another that gives them in
--- their order is proved too, and one that gives them in another order is refused for that.
+-- `find` answers the first record with the key. The way through the records is searched for among those that `in_order` knows:
+-- the slice's own, and that turned twice. Any other is refused, as one that turns it once.
 use Rattle.std.proofs.Common.{◌≡◌, find, ◌∙◌, rules, tests}
 use Rattle.tray.specs.Finds.{with_key}
 use Rattle.tray.specs.Trays.{records}
