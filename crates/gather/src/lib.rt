@@ -1,7 +1,7 @@
 // A layer over any sink that gathers short parts into longer ones.
 #![tactic(auto)]
 
-ghost use Rattle.std.specs.Prelude.{◌≡◌, ◌+◌, ◌≤◌, [], length};
+ghost use Rattle.std.specs.Prelude.{◌≡◌, ◌+◌, ◌≤◌, ◌++◌, [], length, min, take};
 ghost use Rattle.arrayvec.specs.ArrayVec.{array_vec_len};
 ghost use Rattle.sink.specs.Meaning.{Writes};
 ghost use Rattle.gather.specs.Gathers.{most_waiting, layer_lawful, WaitsIfShort};
@@ -23,6 +23,15 @@ pub struct Gather<S> {
     below: S,
     waiting: ArrayVec<u8, MOST>,
     ghost few: { array_vec_len waiting ≤ most_waiting },
+}
+
+// Of the bytes that are kept the first `waits` stay, and part waits behind them.
+fn hold(kept: &mut ArrayVec<u8, MOST>, waits: usize, part: &[u8])
+    requires { min waits (array_vec_len kept.old) + length part.now ≤ most_waiting }
+    ensures { kept.new.items ≡ take waits kept.old.items ++ part.now }
+{
+    kept.truncate(waits);
+    kept.try_extend_from_slice(part).unwrap();
 }
 
 impl<S: Sink> Gather<S> {
@@ -91,8 +100,7 @@ impl<S: Sink> Sink for Gather<S> {
         if n > MOST {
             return self.below.put(part);
         }
-        self.waiting.truncate(waits);
-        self.waiting.try_extend_from_slice(part).unwrap();
+        hold(&mut self.waiting, waits, part);
         Ok(())
     }
 
