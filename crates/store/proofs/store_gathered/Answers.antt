@@ -1,4 +1,4 @@
-use Rattle.std.proofs.Common.{◌≡◌, ◌≤◌, min, length, take, ap, ◌∙◌, arith, rules, length-take}
+use Rattle.std.proofs.Common.{◌≡◌, ◌≤◌, length, ap, ◌∙◌, arith, rules}
 use Rattle.sink.specs.Meaning.{View, lent_lawful}
 use Rattle.sink.proofs.Grown.{settled_memory}
 use Rattle.gather.specs.Gathers.{layer_lawful}
@@ -10,10 +10,7 @@ returns g c =
     let before = c.store-answer.new.sink in
     let layer = c.settle.new.self in
     let below = layer.below.now in
-    let n = min (length layer.waiting.items) (g.S.Sink.view below).room in
-    let kept = take n layer.waiting.items in
-    let empty : length kept ≡ 0 = length-take n layer.waiting.items ∙ omega (arith, c.settle.ensures.none_held) in
-    let all = layered kept c.new-layer.ensures.same c.store-answer.ensures.puts c.settle.ensures.same empty in
+    let all = layered layer.waiting.items c.new-layer.ensures.same c.store-answer.ensures.puts c.settle.ensures.same (omega (arith, c.settle.ensures.none_held)) in
     let lender = all.lender in
     let puts = all.puts in
     let none : g.S.Sink.held below ≡ 0 = omega (arith, c.settle.ensures.none_held) in

@@ -1,4 +1,4 @@
-use Rattle.std.proofs.Common.{◌≡◌, ◌≤◌, min, length, take, refl, ap, ◌∙◌, arith, rules, length-take}
+use Rattle.std.proofs.Common.{◌≡◌, ◌≤◌, length, refl, ap, arith, rules}
 use Rattle.sink.specs.Meaning.{View}
 use Rattle.sink.proofs.Grown.{settled_memory}
 use Rattle.gather.proofs.Layers.{layered}
@@ -8,10 +8,7 @@ pub returns : goal.returns
 returns g c =
     let layer = c.store_gathered.new.sink in
     let below = layer.below.now in
-    let n = min (length layer.waiting.items) (g.S.Sink.view below).room in
-    let kept = take n layer.waiting.items in
-    let empty : length kept ≡ 0 = length-take n layer.waiting.items ∙ omega (arith, c.store_gathered.ensures.none_held) in
-    let all = layered kept c.new-lower.ensures.same c.store_gathered.ensures.puts refl empty in
+    let all = layered layer.waiting.items c.new-lower.ensures.same c.store_gathered.ensures.puts refl (omega (arith, c.store_gathered.ensures.none_held)) in
     let lender = all.lender in
     let puts = all.puts in
     let none : g.S.Sink.held below ≡ 0 = omega (arith, c.store_gathered.ensures.none_held) in
